@@ -1,0 +1,3 @@
+pub mod Sums
+pub mod Polynomials
+pub mod Relation

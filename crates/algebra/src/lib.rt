@@ -1,0 +1,1 @@
+// Mathematics over every field that keeps the laws: its definitions stand in `specs/`.
