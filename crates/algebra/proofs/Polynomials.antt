@@ -22,7 +22,6 @@ module _ {K : Type 0} (f : Ops K) (laws : Laws f) where
 
   infixl 60 _⊞_
   infixl 70 _⊠_
-
   -- one coefficient more at the front
   pub value-cons : (c : K) (p : List K) (x : K) → value f (c ∷ p) x ≡ c ⊞ x ⊠ value f p x
   value-cons c p x =

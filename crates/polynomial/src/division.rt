@@ -13,12 +13,17 @@ use field::Field;
 
 // Divides `p`, rows of N = `remainder.len()` coefficients, by `X^N - alpha`, row by row from the last:
 // `p = quotient·(X^N - alpha) + remainder`. Writes nothing where the lengths do not fit.
-pub fn divide<F: Field>(p: &[F], alpha: F, quotient: &mut [F], remainder: &mut [F]) -> Result<(), WrongLength>
+pub fn divide<F: Field>(
+    p: &[F],
+    alpha: F,
+    quotient: &mut [F],
+    remainder: &mut [F],
+) -> Result<(), WrongLength>
     ensures { λ r. ⌜ elim r [
-        Ok _ ↦ Rows-fit (length (now (p .entry))) (length (now (quotient .entry))) (length (now (remainder .entry)))
-            × Divided (F·Field .ops) (F·Field .mean) (F·Field .reduced) (now (p .entry)) (F·Field .mean alpha) (now (quotient .exit)) (now (remainder .exit))
-        | Err _ ↦ (Rows-fit (length (now (p .entry))) (length (now (quotient .entry))) (length (now (remainder .entry))) → ⊥)
-            × (now (quotient .exit) ≡ now (quotient .entry)) × (now (remainder .exit) ≡ now (remainder .entry))
+      | Ok _ ↦ Rows-fit (length (now (p .entry))) (length (now (quotient .entry))) (length (now (remainder .entry)))
+          × Divided (F·Field .ops) (F·Field .mean) (F·Field .reduced) (now (p .entry)) (F·Field .mean alpha) (now (quotient .exit)) (now (remainder .exit))
+      | Err _ ↦ (Rows-fit (length (now (p .entry))) (length (now (quotient .entry))) (length (now (remainder .entry))) → ⊥)
+          × (now (quotient .exit) ≡ now (quotient .entry)) × (now (remainder .exit) ≡ now (remainder .entry))
     ] ⌝ }
 {
     let n = remainder.len();

@@ -13,11 +13,11 @@ use field::Field;
 // `a[i]·b[j]` over `d + i - j = k`. Writes nothing where the lengths do not fit.
 pub fn middle_product<F: Field>(a: &[F], b: &[F], out: &mut [F]) -> Result<(), WrongLength>
     ensures { λ r. ⌜ elim r [
-        Ok _ ↦ Middle-fits (length (now (a .entry))) (length (now (b .entry))) (length (now (out .entry)))
-            × Cells (F·Field .mean) (F·Field .reduced) (now (out .exit))
-                (middle-list (F·Field .ops) (length (now (a .entry)) - 1) (map (F·Field .mean) (now (a .entry))) (map (F·Field .mean) (now (b .entry))))
-        | Err _ ↦ (Middle-fits (length (now (a .entry))) (length (now (b .entry))) (length (now (out .entry))) → ⊥)
-            × (now (out .exit) ≡ now (out .entry))
+      | Ok _ ↦ Middle-fits (length (now (a .entry))) (length (now (b .entry))) (length (now (out .entry)))
+          × Cells (F·Field .mean) (F·Field .reduced) (now (out .exit))
+          (middle-list (F·Field .ops) (length (now (a .entry)) - 1) (map (F·Field .mean) (now (a .entry))) (map (F·Field .mean) (now (b .entry))))
+      | Err _ ↦ (Middle-fits (length (now (a .entry))) (length (now (b .entry))) (length (now (out .entry))) → ⊥)
+          × (now (out .exit) ≡ now (out .entry))
     ] ⌝ }
 {
     let d = out.len() / 2;

@@ -16,13 +16,12 @@ returns g c =
     let q = c .fill-quotient .last .quotient in
     let kept : length (c .args .remainder .now) ≡ length r = omega arith in
     let steps = λ (k : ℕ). c .fill-quotient .ensures .steps k
-        ∙ ap (λ n. f .ops .add (coeff (f .ops) (map (f .mean) (c .args .p .now)) (k + n)) (f .ops .mul (f .mean (c .args .alpha)) (coeff (f .ops) (map (f .mean) q) (k + n)))) kept in
-    (
-        search needs,
-        record {
-          divides = divides (f .ops) (g .F·Field·met .lawful) (map (f .mean) (c .args .p .now)) (map (f .mean) q) (map (f .mean) r) (length r) (f .mean (c .args .alpha))
-              (omega arith) (length-map r (f .mean)) steps (c .fill-remainder .ensures .rests);
-          quotient-tidy = c .fill-quotient .ensures .tidy;
-          remainder-tidy = c .fill-remainder .ensures .tidy;
-        },
+    ∙ ap (λ n. f .ops .add (coeff (f .ops) (map (f .mean) (c .args .p .now)) (k + n)) (f .ops .mul (f .mean (c .args .alpha)) (coeff (f .ops) (map (f .mean) q) (k + n)))) kept in (
+      search needs,
+      record {
+        divides = divides (f .ops) (g .F·Field·met .lawful) (map (f .mean) (c .args .p .now)) (map (f .mean) q) (map (f .mean) r) (length r) (f .mean (c .args .alpha))
+            (omega arith) (length-map r (f .mean)) steps (c .fill-remainder .ensures .rests);
+        quotient-tidy = c .fill-quotient .ensures .tidy;
+        remainder-tidy = c .fill-remainder .ensures .tidy;
+      },
     )

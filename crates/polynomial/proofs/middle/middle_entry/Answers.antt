@@ -24,28 +24,26 @@ loop-j-again g c =
     let j = c .loop-j .j in
     let t = middle-term (f .ops) laws d a b k in
     elim (c .if-low-k .came) [
-        then-low-k·then-k-low w ↦
-            let i : ℕ = k - (d - j) in
-            let term : f .mean (w .times .result) ≡ t j =
-                w .times .ensures .means
-                ∙ ap₂ (f .ops .mul) (coeff-read (f .ops) (f .mean) xs i (w .index-a-k .result) (omega arith) (w .index-a-k .is))
-                (coeff-read (f .ops) (f .mean) ys j (w .index-b-j .result) (omega arith) (w .index-b-j .is))
-                ∙ sym (middle-met (f .ops) laws d a b k j i (omega arith) (omega arith)) in
-            (
-                ap (f .mean) (w .sum-is) ∙ w .plus-sum .ensures .means
+      | then-low-k·then-k-low w ↦
+          let i : ℕ = k - (d - j) in
+          let term : f .mean (w .times .result) ≡ t j =
+          w .times .ensures .means
+          ∙ ap₂ (f .ops .mul) (coeff-read (f .ops) (f .mean) xs i (w .index-a-k .result) (omega arith) (w .index-a-k .is))
+          (coeff-read (f .ops) (f .mean) ys j (w .index-b-j .result) (omega arith) (w .index-b-j .is))
+          ∙ sym (middle-met (f .ops) laws d a b k j i (omega arith) (omega arith)) in (
+            ap (f .mean) (w .sum-is) ∙ w .plus-sum .ensures .means
                 ∙ sum-more (f .ops) laws j t (f .mean (c .loop-j .sum)) (f .mean (w .times .result)) (c .loop-j .inv .0) term,
-                subst (f .reduced) (sym (w .sum-is)) (w .plus-sum .ensures .tidy),
-            )
-        | else-low-k w ↦
-            let none : t j ≡ f .ops .nil =
-                elim (w .else-low-k .came) [
-                    else-low-k·by·then-low-k·else-k-low v ↦ middle-none (f .ops) laws d a b k j (λ i l e. omega arith)
-                    | else-low-k·by·else-low-k v ↦ middle-none (f .ops) laws d a b k j (λ i l e. omega arith)
-                ] in
-            (
-                ap (f .mean) (w .sum-is) ∙ sum-pass (f .ops) laws j t (f .mean (c .loop-j .sum)) (c .loop-j .inv .0) none,
-                subst (f .reduced) (sym (w .sum-is)) (c .loop-j .inv .1),
-            )
+            subst (f .reduced) (sym (w .sum-is)) (w .plus-sum .ensures .tidy),
+          )
+      | else-low-k w ↦
+          let none : t j ≡ f .ops .nil =
+          elim (w .else-low-k .came) [
+            | else-low-k·by·then-low-k·else-k-low v ↦ middle-none (f .ops) laws d a b k j (λ i l e. omega arith)
+            | else-low-k·by·else-low-k v ↦ middle-none (f .ops) laws d a b k j (λ i l e. omega arith)
+          ] in (
+            ap (f .mean) (w .sum-is) ∙ sum-pass (f .ops) laws j t (f .mean (c .loop-j .sum)) (c .loop-j .inv .0) none,
+            subst (f .reduced) (sym (w .sum-is)) (c .loop-j .inv .1),
+          )
     ]
 
 pub returns : need.returns

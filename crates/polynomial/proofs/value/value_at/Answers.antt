@@ -25,11 +25,10 @@ loop-i-again g c =
     let within : j < length p = omega arith in
     let next : j + 1 ≡ c .loop-i .i = omega arith in
     let split : drop j p ≡ y ∷ drop (c .loop-i .i) p =
-        drop-more p j y within ∙ ap (λ z. z ∷ drop (j + 1) p) (sym (c .index-p-i .is)) ∙ ap (λ n. y ∷ drop n p) next in
-    (
-        c .plus-sum .ensures .means
-        ∙ ap (f .ops .add (f .mean y)) (c .times .ensures .means ∙ ap (f .ops .mul x) (c .loop-i .inv .0))
-        ∙ sym (value-cons (f .ops) (g .F·Field·met .lawful) (f .mean y) (map (f .mean) (drop (c .loop-i .i) p)) x)
-        ∙ ap (λ ys. value (f .ops) (map (f .mean) ys) x) (sym split),
-        c .plus-sum .ensures .tidy,
+    drop-more p j y within ∙ ap (λ z. z ∷ drop (j + 1) p) (sym (c .index-p-i .is)) ∙ ap (λ n. y ∷ drop n p) next in (
+      c .plus-sum .ensures .means
+          ∙ ap (f .ops .add (f .mean y)) (c .times .ensures .means ∙ ap (f .ops .mul x) (c .loop-i .inv .0))
+          ∙ sym (value-cons (f .ops) (g .F·Field·met .lawful) (f .mean y) (map (f .mean) (drop (c .loop-i .i) p)) x)
+          ∙ ap (λ ys. value (f .ops) (map (f .mean) ys) x) (sym split),
+      c .plus-sum .ensures .tidy,
     )
