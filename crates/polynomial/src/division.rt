@@ -2,10 +2,11 @@ ghost use mathlib.Core.Path.{_≡_};
 ghost use mathlib.Core.List.{map};
 ghost use Prim.Native.Nat.{ℕ, _+_, _<_};
 ghost use lib.ListN.{length};
+ghost use Rattle.std.specs.Orderings.{Decides};
 ghost use Rattle.std.specs.declared.result.Result.the-variants.{Ok, Err};
 ghost use Rattle.std.specs.shelf.Lists.{All};
 ghost use Rattle.algebra.specs.Polynomials.{coeff};
-ghost use Rattle.polynomial.specs.Cells.{Divided};
+ghost use Rattle.polynomial.specs.Cells.{Divided, carried};
 ghost use Rattle.polynomial.specs.Lengths.{Rows-fit};
 use crate::WrongLength;
 use crate::value::coefficient;
@@ -26,40 +27,51 @@ pub fn divide<F: Field>(
           × (now (quotient .exit) ≡ now (quotient .entry)) × (now (remainder .exit) ≡ now (remainder .entry))
     ] ⌝ }
 {
-    let n = remainder.len();
-    let above = quotient.len();
-    if n == 0 || p.len() < n || p.len() - n != above || above % n != 0 {
+    if !rows_fit(p.len(), quotient.len(), remainder.len()) {
         return Err(WrongLength);
     }
-    fill_quotient(p, n, alpha, quotient);
+    fill_quotient(p, remainder.len(), alpha, quotient);
     fill_remainder(p, alpha, quotient, remainder);
     Ok(())
 }
 
-// Writes the quotient from its last coefficient down: each is the dividend's, `n` higher, and `alpha` times
-// the quotient's own, `n` higher.
+// Whether a dividend is rows as long as the remainder, one more than the quotient has.
+fn rows_fit(dividend: usize, quotient: usize, remainder: usize) -> bool
+    ensures { λ r. ⌜ Decides r (Rows-fit dividend quotient remainder) ⌝ }
+{
+    0 < remainder
+        && remainder <= dividend
+        && dividend - remainder == quotient
+        && quotient % remainder == 0
+}
+
+// Writes the quotient from its last coefficient down: coefficient k is `carried` at k + n.
 fn fill_quotient<F: Field>(p: &[F], n: usize, alpha: F, quotient: &mut [F])
     requires { ⌜ length (now quotient) + n ≡ length (now p) ⌝ ∗ ⌜ 0 < n ⌝ }
     ensures steps { λ _. ⌜ ((k : ℕ) → coeff (F·Field .ops) (map (F·Field .mean) (now (quotient .exit))) k
-        ≡ F·Field .ops .add (coeff (F·Field .ops) (map (F·Field .mean) (now (p .entry))) (k + n))
-        (F·Field .ops .mul (F·Field .mean alpha) (coeff (F·Field .ops) (map (F·Field .mean) (now (quotient .exit))) (k + n)))) ⌝ }
+        ≡ carried (F·Field .ops) (map (F·Field .mean) (now (p .entry))) (F·Field .mean alpha) (map (F·Field .mean) (now (quotient .exit))) (k + n)) ⌝ }
     ensures tidy { λ _. ⌜ All (F·Field .reduced) (now (quotient .exit)) ⌝ }
 {
     for k in (0..quotient.len()).rev() {
-        let carried = alpha.times(coefficient(quotient, k + n));
-        quotient[k] = p[k + n].plus(carried);
+        quotient[k] = carry(p, alpha, quotient, k + n);
     }
 }
 
-// Writes the remainder: each coefficient is the dividend's and `alpha` times the quotient's.
+// Writes the remainder: coefficient k is `carried` at k.
 fn fill_remainder<F: Field>(p: &[F], alpha: F, quotient: &[F], remainder: &mut [F])
     ensures rests { λ _. ⌜ ((k : ℕ) → k < length (now (remainder .exit)) → coeff (F·Field .ops) (map (F·Field .mean) (now (remainder .exit))) k
-        ≡ F·Field .ops .add (coeff (F·Field .ops) (map (F·Field .mean) (now (p .entry))) k)
-        (F·Field .ops .mul (F·Field .mean alpha) (coeff (F·Field .ops) (map (F·Field .mean) (now (quotient .entry))) k))) ⌝ }
+        ≡ carried (F·Field .ops) (map (F·Field .mean) (now (p .entry))) (F·Field .mean alpha) (map (F·Field .mean) (now (quotient .entry))) k) ⌝ }
     ensures tidy { λ _. ⌜ All (F·Field .reduced) (now (remainder .exit)) ⌝ }
 {
-    for j in 0..remainder.len() {
-        let carried = alpha.times(coefficient(quotient, j));
-        remainder[j] = coefficient(p, j).plus(carried);
+    for k in 0..remainder.len() {
+        remainder[k] = carry(p, alpha, quotient, k);
     }
+}
+
+// The dividend's coefficient at k and `alpha` times the quotient's.
+fn carry<F: Field>(p: &[F], alpha: F, quotient: &[F], k: usize) -> F
+    ensures means { λ r. ⌜ F·Field .mean r ≡ carried (F·Field .ops) (map (F·Field .mean) (now (p .entry))) (F·Field .mean alpha) (map (F·Field .mean) (now (quotient .entry))) k ⌝ }
+    ensures tidy { λ r. ⌜ F·Field .reduced r ⌝ }
+{
+    coefficient(p, k).plus(alpha.times(coefficient(quotient, k)))
 }

@@ -1,11 +1,9 @@
 use mathlib.Core.List.{map}
-use Rattle.algebra.specs.Polynomials.{coeff}
+use Rattle.polynomial.specs.Cells.{carried}
 use Rattle.polynomial.proofs.Fills.{Filled}
 use Rattle.polynomial.proofs.division.fill_remainder.Given as given
 
-abbrev pub Inv-loop-j : given.InvT-loop-j
-Inv-loop-j g l =
+abbrev pub Inv-loop-k : given.InvT-loop-k
+Inv-loop-k g l =
     let f = g .F·Field in
-    Filled (f .ops) (f .mean) (f .reduced)
-    (λ i. f .ops .add (coeff (f .ops) (map (f .mean) (l .p)) i) (f .ops .mul (f .mean (l .alpha)) (coeff (f .ops) (map (f .mean) (l .quotient)) i)))
-    (l .remainder) (l .j)
+    Filled (f .ops) (f .mean) (f .reduced) (carried (f .ops) (map (f .mean) (l .p)) (f .mean (l .alpha)) (map (f .mean) (l .quotient))) (l .remainder) (l .k)
