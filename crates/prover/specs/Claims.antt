@@ -39,3 +39,9 @@ pub record Wires-full (n left right out : ℕ) : Type 0 where
   pub left-long : left ≡ n
   pub right-long : right ≡ n
   pub out-long : out ≡ n
+
+-- the five lengths of a claim that is looked at
+pub record Fitted (m n matrix vector left right out : ℕ) : Type 0 where
+  pub rows : Rows-full m n matrix
+  pub vector-long : vector ≡ m
+  pub wires : Wires-full n left right out

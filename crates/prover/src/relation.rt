@@ -2,9 +2,12 @@ ghost use mathlib.Core.Path.{_≡_};
 ghost use mathlib.Core.List.{map, []};
 ghost use Prim.Native.Nat.{_+_, _*_, _<_};
 ghost use lib.ListN.{length};
+ghost use Rattle.std.specs.Options.{mapped};
+ghost use Rattle.std.specs.declared.option.Option.the-variants.{Some, None};
 ghost use Rattle.algebra.specs.Polynomials.{coeff};
 ghost use Rattle.algebra.specs.Relation.{wires, row as row-of, row-error, gate-error};
-ghost use Rattle.prover.specs.Claims.{claimed, Rows-full, Wires-full};
+ghost use Rattle.prover.specs.Claims.{claimed, Fitted, Rows-full, Wires-full};
+ghost use Rattle.prover.specs.Refusals.{told, refusal};
 ghost use Rattle.prover.specs.Findings.{First-off, Audited, Checked};
 use crate::refusal::Refusal;
 use crate::refusal::in_range;
@@ -49,8 +52,33 @@ pub fn audit<F: Field>(
 ) -> Result<Finding, Refusal>
     ensures { λ r. ⌜ Audited (F·Field .ops) (claimed (F·Field .mean) m n (now (matrix .entry)) (now (vector .entry)) (now (left .entry)) (now (right .entry)) (now (out .entry))) r ⌝ }
 {
+    if let Some(e) = refused(m, n, matrix, vector, left, right, out) {
+        return Err(e);
+    }
+    if let Some(i) = first_row_off(m, n, matrix, vector, left, right, out) {
+        return Ok(Finding::RowFails(i));
+    }
+    if let Some(i) = first_gate_off(n, left, right, out) {
+        return Ok(Finding::GateFails(i));
+    }
+    Ok(Finding::AllHold)
+}
+
+// The first refusal that fits the claim; where none does, its lengths are those that its sizes ask for.
+fn refused<F: Field>(
+    m: usize,
+    n: usize,
+    matrix: &[F],
+    vector: &[F],
+    left: &[F],
+    right: &[F],
+    out: &[F],
+) -> Option<Refusal>
+    ensures tells { λ r. ⌜ mapped told r ≡ refusal (F·Field .ops .span) (claimed (F·Field .mean) m n (now (matrix .entry)) (now (vector .entry)) (now (left .entry)) (now (right .entry)) (now (out .entry))) ⌝ }
+    ensures fits { λ r. ⌜ elim r [ None ↦ Fitted m n (length (now (matrix .entry))) (length (now (vector .entry))) (length (now (left .entry))) (length (now (right .entry))) (length (now (out .entry))) | Some _ ↦ Unit {0} ] ⌝ }
+{
     if !in_range::<F>(m, n) {
-        return Err(Refusal::BadSize);
+        return Some(Refusal::BadSize);
     }
     if !in_shape(
         m,
@@ -61,15 +89,9 @@ pub fn audit<F: Field>(
         right.len(),
         out.len(),
     ) {
-        return Err(Refusal::BadLength);
+        return Some(Refusal::BadLength);
     }
-    if let Some(i) = first_row_off(m, n, matrix, vector, left, right, out) {
-        return Ok(Finding::RowFails(i));
-    }
-    if let Some(i) = first_gate_off(n, left, right, out) {
-        return Ok(Finding::GateFails(i));
-    }
-    Ok(Finding::AllHold)
+    None
 }
 
 // The first row whose entry of `x` is not that of `M·(1, wl, wr, wo)`.
@@ -82,7 +104,7 @@ fn first_row_off<F: Field>(
     right: &[F],
     out: &[F],
 ) -> Option<usize>
-    requires { ⌜ Rows-full m n (length (now matrix)) ⌝ ∗ ⌜ length (now vector) ≡ m ⌝ ∗ ⌜ Wires-full n (length (now left)) (length (now right)) (length (now out)) ⌝ }
+    requires { ⌜ Fitted m n (length (now matrix)) (length (now vector)) (length (now left)) (length (now right)) (length (now out)) ⌝ }
     ensures { λ r. ⌜ First-off (F·Field .ops) m (row-error (F·Field .ops) (claimed (F·Field .mean) m n (now (matrix .entry)) (now (vector .entry)) (now (left .entry)) (now (right .entry)) (now (out .entry)))) r ⌝ }
 {
     for i in 0..m {
