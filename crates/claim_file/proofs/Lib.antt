@@ -1,0 +1,5 @@
+pub mod Numerals
+pub mod Lexing
+pub mod Chains
+pub mod Headings
+pub mod Claims

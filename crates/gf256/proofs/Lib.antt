@@ -1,0 +1,4 @@
+pub mod Laws
+pub mod Linear
+pub mod Table
+pub mod Times

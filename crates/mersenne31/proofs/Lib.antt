@@ -1,0 +1,4 @@
+pub mod Inverse
+pub mod Laws
+pub mod Mod
+pub mod Trial
