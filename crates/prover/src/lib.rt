@@ -2,6 +2,10 @@ mod refusal;
 mod relation;
 
 pub use refusal::Refusal;
+pub use refusal::RefusalDebug;
+pub use refusal::RefusalPartialEq;
 pub use relation::Finding;
+pub use relation::FindingDebug;
+pub use relation::FindingPartialEq;
 pub use relation::audit;
 pub use relation::check;
