@@ -7,6 +7,8 @@ use Rattle.std.specs.declared.result.Result.the-variants.{Ok, Err}
 use Rattle.field.specs.Field.{Ops}
 use Rattle.prover.specs.Claims.{claimed}
 use Rattle.prover.specs.Findings.{Audited}
+use Rattle.prover.specs.Refusals.{told as refusal-told}
+use Rattle.claim_file.specs.Faults.{told as read-told}
 use Rattle.prover.specs.declared.relation.Finding.{Finding}
 use Rattle.prover.specs.declared.refusal.Refusal.{Refusal}
 use Rattle.claim_file.specs.Grammar.{Claim, read-spec}
@@ -18,6 +20,11 @@ use Rattle.mersenne31.specs.Mersenne31.{modulo, rem}
 use Rattle.gf256.specs.Gf256.{bytes, low}
 use Rattle.claim_check.specs.declared.CheckFault.{CheckFault}
 use Rattle.claim_check.specs.declared.CheckFault.the-variants.{Unreadable, Refused}
+
+-- every fault with its number and the values that it tells: those of what it holds
+abbrev pub told : CheckFault → ℕ × List ℕ
+told (Unreadable e) = read-told e
+told (Refused e) = refusal-told e
 
 -- an audit of the claim that the words of c stand for in a field; want of memory tells nothing
 abbrev pub Audits : {K : Type 0} → Ops K → (ℕ → K) → Claim → Result Finding CheckFault → Type 0

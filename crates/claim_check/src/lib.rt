@@ -6,7 +6,7 @@ ghost use Rattle.std.specs.Vec.{made};
 ghost use Rattle.claim_file.specs.Answer.{meaning};
 ghost use Rattle.claim_file.specs.declared.ReadFault.the-variants.{NoMemory};
 ghost use Rattle.claim_check.specs.declared.CheckFault.the-variants.{Unreadable as unreadable, Refused as refused};
-ghost use Rattle.claim_check.specs.Outcome.{Audits, Answers};
+ghost use Rattle.claim_check.specs.Outcome.{told, Audits, Answers};
 use claim_file::ClaimFile;
 use claim_file::FieldName;
 use claim_file::ReadFault;
@@ -32,6 +32,18 @@ use std::alloc::Global;
 pub enum CheckFault {
     Unreadable(ReadFault),
     Refused(Refusal),
+}
+
+impl CheckFault {
+    // The number of the fault: that of what it holds.
+    pub fn number(self) -> u32
+        ensures { λ r. ⌜ r ≡ told self .0 ⌝ }
+    {
+        match self {
+            CheckFault::Unreadable(e) => e.number(),
+            CheckFault::Refused(e) => e.number(),
+        }
+    }
 }
 
 pub impl From<ReadFault> for CheckFault as CheckFaultFromRead {

@@ -1,5 +1,6 @@
 ghost use mathlib.Core.Path.{_≡_};
 ghost use Prim.Native.Nat.{_≤_};
+ghost use Rattle.prover.specs.Refusals.{told};
 ghost use Rattle.prover.specs.Claims.{in-range as sizes-fit, in-shape as lengths-fit};
 use field::Field;
 
@@ -10,6 +11,18 @@ pub enum Refusal {
     BadSize,
     // 13: the matrix, the vector or a wire has the wrong length.
     BadLength,
+}
+
+impl Refusal {
+    // The number of the refusal.
+    pub fn number(self) -> u32
+        ensures { λ r. ⌜ r ≡ told self .0 ⌝ }
+    {
+        match self {
+            Refusal::BadSize => 12,
+            Refusal::BadLength => 13,
+        }
+    }
 }
 
 pub const MOST_ROWS: usize = 64;

@@ -1,0 +1,50 @@
+// The commands that take arguments.
+use crate::show::check_fault;
+use crate::show::finding;
+use claim_check::check_text;
+use prover::Finding;
+use std::error::AnyError;
+use std::fs;
+
+const VERSION: &str = "0.1.0";
+
+const HELP: &str = "\
+registry checks claims of the Hadamard product relation
+    x = M(1, wl, wr, wo),  wl[i]*wr[i] = wo[i]
+over the field of 2^31 - 1 elements or the field of 256.
+
+usage:
+    registry               play the built-in example, a multivariate signature
+    registry check FILE    say whether the claim in FILE is true
+    registry --help        this text
+    registry --version     the version
+
+check prints true or false, or the refusal by its number and in words, and then
+ends with status 1. docs/CLAIM-FILE.md has the format of FILE.";
+
+// Reads the claim in a file and prints whether it is true, or why it was refused.
+pub fn check(rt: &LibcRuntime, path: &str) -> Result<(), AnyError> {
+    let text = fs::read(rt, path)?;
+    match check_text(rt.alloc(), &text) {
+        Ok(Finding::AllHold) => rt.println("true")?,
+        Ok(found) => {
+            rt.println("false")?;
+            eprintln!(rt, "{}", finding(rt.alloc(), found)?)?;
+        }
+        Err(fault) => {
+            println!(rt, "{}", check_fault(rt.alloc(), fault)?)?;
+            return Err("the claim was not checked".into());
+        }
+    }
+    Ok(())
+}
+
+pub fn help(rt: &LibcRuntime) -> Result<(), AnyError> {
+    rt.println(HELP)?;
+    Ok(())
+}
+
+pub fn version(rt: &LibcRuntime) -> Result<(), AnyError> {
+    println!(rt, "registry {VERSION}")?;
+    Ok(())
+}
