@@ -1,6 +1,7 @@
 -- The field of the remainders by a prime.
 use mathlib.Core.Bool.{true, false}
-use Prim.Native.Nat.{ℕ, zero, suc, _+_, _-_, _*_, _/_, _%_}
+use mathlib.Core.Path.{_≡_}
+use Prim.Native.Nat.{ℕ, zero, suc, _+_, _-_, _*_, _/_, _%_, _<_, _≤_}
 use native.Mathlib.Nat.{mod-lt}
 use lib.Dec.{eqb, leb, lit<}
 use Rattle.field.specs.Below.{Below}
@@ -9,6 +10,10 @@ use Rattle.field.specs.Field.{Ops}
 -- the prime 2 ^ 31 - 1
 abbrev pub p : ℕ
 p = 2147483647
+
+-- n is above 1, and no number from 2 on below it divides it
+abbrev pub Prime : ℕ → Type 0
+Prime n = (1 < n) × ((d : ℕ) → 2 ≤ d → d < n → n % d ≡ 0 → ⊥)
 
 -- the elements: the numbers below p
 abbrev pub Remainder : Type 0

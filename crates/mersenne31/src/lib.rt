@@ -1,12 +1,19 @@
 ghost use mathlib.Core.Path.{_≡_};
 ghost use Prim.Native.Nat.{_+_, _-_, _*_, _%_, _<_};
-ghost use Rattle.mersenne31.specs.Mersenne31.{Remainder, modulo, p, rem};
+ghost use Rattle.mersenne31.specs.Mersenne31.{Prime, Remainder, modulo, p, rem};
 ghost use Rattle.std.specs.declared.option.Option.the-variants.{Some, None};
 use field::Encoded;
 use field::Field;
 
 // The prime 2^31 - 1.
 pub const P: u32 = 2_147_483_647;
+
+// The modulus, which is prime.
+pub fn modulus() -> u32
+    ensures { λ r. ⌜ (r ≡ p) × Prime r ⌝ }
+{
+    P
+}
 
 // A word that stands for its remainder by `P`.
 #[derive(Clone, Copy)]

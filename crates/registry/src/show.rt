@@ -1,4 +1,10 @@
 // Findings and faults in words.
+ghost use mathlib.Core.Path.{_≡_};
+ghost use Rattle.std.specs.Of.String.{string-bytes};
+ghost use Rattle.std.specs.Vec.{made};
+ghost use Rattle.claim_check.specs.Outcome.{told};
+ghost use Rattle.registry.specs.Words.{finding-text, refusal-text, read-text, fault-words, fault-text};
+ghost use mathlib.Core.List.{[], _∷_};
 use claim_check::CheckFault;
 use claim_file::ReadFault;
 use prover::Finding;
@@ -7,7 +13,9 @@ use std::alloc::AllocError;
 use std::alloc::Global;
 
 // What was found of a claim, rows and gates counted from 0.
-pub fn finding(heap: Global, found: Finding) -> Result<String, AllocError> {
+pub fn finding(heap: Global, found: Finding) -> Result<String, AllocError>
+    ensures { λ r. ⌜ made r (λ s. string-bytes s ≡ finding-text found) ⌝ }
+{
     match found {
         Finding::AllHold => format!(heap, "every row and every gate holds"),
         Finding::RowFails(i) => format!(heap, "row {i} is the first that fails"),
@@ -16,18 +24,35 @@ pub fn finding(heap: Global, found: Finding) -> Result<String, AllocError> {
 }
 
 // A fault with its number, and its line where it has one.
-pub fn check_fault(heap: Global, fault: CheckFault) -> Result<String, AllocError> {
-    let number = fault.number();
+pub fn check_fault(heap: Global, fault: CheckFault) -> Result<String, AllocError>
+    ensures { λ r. ⌜ made r (λ s. string-bytes s ≡ fault-text (told fault) (fault-words fault)) ⌝ }
+{
     match fault {
-        CheckFault::Refused(e) => format!(heap, "refused {number}: {}", refusal(e)),
+        CheckFault::Refused(e) => numbered(heap, e.number(), refusal(e)),
         CheckFault::Unreadable(e) => match e.line() {
-            Some(line) => format!(heap, "refused {number}: line {line}: {}", read_fault(e)),
-            None => format!(heap, "refused {number}: {}", read_fault(e)),
+            Some(line) => located(heap, e.number(), line, read_fault(e)),
+            None => numbered(heap, e.number(), read_fault(e)),
         },
     }
 }
 
-fn refusal(e: Refusal) -> &'static str {
+// A fault that tells no line.
+fn numbered(heap: Global, number: u32, words: &str) -> Result<String, AllocError>
+    ensures { λ r. ⌜ made r (λ s. string-bytes s ≡ fault-text (number, []) (now (words .entry))) ⌝ }
+{
+    format!(heap, "refused {number}: {words}")
+}
+
+// A fault of a line.
+fn located(heap: Global, number: u32, line: usize, words: &str) -> Result<String, AllocError>
+    ensures { λ r. ⌜ made r (λ s. string-bytes s ≡ fault-text (number, line ∷ []) (now (words .entry))) ⌝ }
+{
+    format!(heap, "refused {number}: line {line}: {words}")
+}
+
+fn refusal(e: Refusal) -> &'static str
+    ensures { λ r. ⌜ now r ≡ refusal-text e ⌝ }
+{
     match e {
         Refusal::BadSize =>
             "m is outside 1 to 64, n is outside 1 to 85, or 6n is above the field's span",
@@ -35,7 +60,9 @@ fn refusal(e: Refusal) -> &'static str {
     }
 }
 
-fn read_fault(e: ReadFault) -> &'static str {
+fn read_fault(e: ReadFault) -> &'static str
+    ensures { λ r. ⌜ now r ≡ read-text e ⌝ }
+{
     match e {
         ReadFault::UnexpectedWord { .. } => "this word is not the one that is due here",
         ReadFault::TooLarge { .. } => "this number is too large",
