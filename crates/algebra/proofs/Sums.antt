@@ -45,3 +45,12 @@ module _ {K : Type 0} (f : Ops K) (laws : Laws f) where
   sum-one (suc n) (suc i) c l h =
       ap₂ _⊞_ (h 0 (omega arith) (λ e. omega arith)) (sum-one n i (λ j. c (suc j)) (omega arith) (λ j l o. h (suc j) (omega arith) (λ e. o (omega arith))))
       ∙ R.nil-add f laws (c (suc i))
+
+  -- a sum of sums, term by term
+  pub sum-add : (n : ℕ) (c d : ℕ → K) → sum f n (λ i. c i ⊞ d i) ≡ sum f n c ⊞ sum f n d
+  sum-add zero c d = sym (add-nil nil)
+  sum-add (suc n) c d =
+      ap (λ x. c 0 ⊞ d 0 ⊞ x) (sum-add n (λ i. c (suc i)) (λ i. d (suc i)))
+      ∙ add-assoc (c 0) (d 0) (sum f n (λ i. c (suc i)) ⊞ sum f n (λ i. d (suc i)))
+      ∙ ap (λ x. c 0 ⊞ x) (R.add-left-comm f laws (d 0) (sum f n (λ i. c (suc i))) (sum f n (λ i. d (suc i))))
+      ∙ sym (add-assoc (c 0) (sum f n (λ i. c (suc i))) (d 0 ⊞ sum f n (λ i. d (suc i))))

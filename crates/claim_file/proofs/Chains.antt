@@ -1,6 +1,6 @@
--- What the parts of a claim file say, one after another. Assumes nothing.
+-- What the parts of a claim file say, one after another.
 use mathlib.Core.Path.{_≡_, refl, sym, ap, subst, _∙_}
-use mathlib.Core.Bool.{Bool, true, false, cond}
+use mathlib.Core.Bool.{true, false}
 use mathlib.Core.List.{List, [], _∷_, _++_}
 use Prim.Native.Nat.{ℕ}
 use Rattle.std.proofs.shelf.Lists.{append-assoc, append-nil}
@@ -9,6 +9,7 @@ use Rattle.std.specs.declared.result.Result.{Result}
 use Rattle.std.specs.declared.result.Result.the-variants.{Ok, Err}
 use Rattle.claim_file.specs.declared.ReadFault.{ReadFault}
 use Rattle.claim_file.specs.declared.ReadFault.the-variants.{UnexpectedWord, TooLarge, Unfinished, NoMemory}
+use Rattle.claim_file.specs.declared.words.Keyword.{Keyword}
 use Rattle.claim_file.specs.declared.words.Words.{Words}
 use Rattle.claim_file.specs.Lexical.{Located, last-line}
 use Rattle.claim_file.specs.State.{text-of, ahead}
@@ -72,7 +73,7 @@ prefixed-more : (xs : List ℕ) (v : ℕ) (said : Said (List ℕ)) → prefixed 
 prefixed-more xs v (Ok p) = ap (λ l. Ok (l, p .1)) (append-assoc xs (v ∷ []) (p .0))
 prefixed-more xs v (Err t) = refl
 
-module _ (last bound : ℕ) (key : List ℕ) where
+module _ (last bound : ℕ) (key : Keyword) where
   pub until-none : (f : ReadFault) (xs : List ℕ) (ws : List Located) → Refuses f (next-word last ws) → Refuses f (prefixed xs (numbers-until last bound key ws))
   unfolding next-word numbers-until
   until-none (UnexpectedWord line) xs [] e = cc

@@ -1,8 +1,7 @@
--- The lists of a claim, one after another. Assumes nothing.
+-- The lists of a claim, one after another.
 use mathlib.Core.Path.{_≡_, sym, ap, subst, _∙_}
 use mathlib.Core.List.{List}
 use Prim.Native.Nat.{ℕ}
-use lib.Chars.{codes}
 use Rattle.std.specs.Of.Vec.{vec-items}
 use Rattle.std.specs.declared.alloc.Global.{Global}
 use Rattle.std.specs.declared.vec.Vec.{Vec}
@@ -11,6 +10,8 @@ use Rattle.std.specs.declared.result.Result.the-variants.{Ok, Err}
 use Rattle.claim_file.specs.declared.ClaimFile.{ClaimFile}
 use Rattle.claim_file.specs.declared.Heading.{Heading}
 use Rattle.claim_file.specs.declared.ReadFault.{ReadFault}
+use Rattle.claim_file.specs.declared.words.Keyword.{Keyword}
+use Rattle.claim_file.specs.declared.words.Keyword.the-variants.{Vector, Left, Right, Out}
 use Rattle.claim_file.specs.declared.words.Words.{Words}
 use Rattle.claim_file.specs.Lexical.{words, last-line}
 use Rattle.claim_file.specs.State.{text-of, ahead}
@@ -20,7 +21,7 @@ use Rattle.claim_file.specs.Answer.{Reads, Refuses, Tells, meaning}
 use Rattle.claim_file.proofs.Chains.{broken, carried}
 use Rattle.claim_file.proofs.Headings.{Headed}
 
-abbrev pub Until : ℕ → List ℕ → Words → Result (Vec ℕ Global) ReadFault → Words → Type 0
+abbrev pub Until : ℕ → Keyword → Words → Result (Vec ℕ Global) ReadFault → Words → Type 0
 Until bound key s r s′ = Reads vec-items s r s′ (λ last. numbers-until last bound key)
 
 abbrev pub ToEnd : ℕ → Words → Result (Vec ℕ Global) ReadFault → Words → Type 0
@@ -43,27 +44,27 @@ unfolding claim-said
 break-1 {s₀} {s₁} {f} a = broken f _ _ (a .tells)
 
 module _ {s₀ s₁ : Words} {head : Heading} {bound : ℕ} (is : bound ≡ order (head .field)) (a : Headed s₀ (Ok head) s₁) where
-  pub break-2 : {s₂ : Words} {f : ReadFault} → Until bound (codes "vector") s₁ (Err f) s₂ → Refuses f (said-of s₀)
+  pub break-2 : {s₂ : Words} {f : ReadFault} → Until bound Vector s₁ (Err f) s₂ → Refuses f (said-of s₀)
   unfolding claim-said
   break-2 {s₂} {f} b = rw (a .tells, ← is) (broken f _ _ (carried s₀ (a .kept) b))
 
-  module _ {s₂ : Words} {matrix : Vec ℕ Global} (b : Until bound (codes "vector") s₁ (Ok matrix) s₂) where
-    pub break-3 : {s₃ : Words} {f : ReadFault} → Until bound (codes "left") s₂ (Err f) s₃ → Refuses f (said-of s₀)
+  module _ {s₂ : Words} {matrix : Vec ℕ Global} (b : Until bound Vector s₁ (Ok matrix) s₂) where
+    pub break-3 : {s₃ : Words} {f : ReadFault} → Until bound Left s₂ (Err f) s₃ → Refuses f (said-of s₀)
     unfolding claim-said
     break-3 {s₃} {f} c =
         let k = b .kept ∙ a .kept in
         rw (a .tells, ← is, carried s₀ (a .kept) b) (broken f _ _ (carried s₀ k c))
 
-    module _ {s₃ : Words} {vector : Vec ℕ Global} (c : Until bound (codes "left") s₂ (Ok vector) s₃) where
-      pub break-4 : {s₄ : Words} {f : ReadFault} → Until bound (codes "right") s₃ (Err f) s₄ → Refuses f (said-of s₀)
+    module _ {s₃ : Words} {vector : Vec ℕ Global} (c : Until bound Left s₂ (Ok vector) s₃) where
+      pub break-4 : {s₄ : Words} {f : ReadFault} → Until bound Right s₃ (Err f) s₄ → Refuses f (said-of s₀)
       unfolding claim-said
       break-4 {s₄} {f} d =
           let k = b .kept ∙ a .kept in
           let l = c .kept ∙ k in
           rw (a .tells, ← is, carried s₀ (a .kept) b, carried s₀ k c) (broken f _ _ (carried s₀ l d))
 
-      module _ {s₄ : Words} {left : Vec ℕ Global} (d : Until bound (codes "right") s₃ (Ok left) s₄) where
-        pub break-5 : {s₅ : Words} {f : ReadFault} → Until bound (codes "out") s₄ (Err f) s₅ → Refuses f (said-of s₀)
+      module _ {s₄ : Words} {left : Vec ℕ Global} (d : Until bound Right s₃ (Ok left) s₄) where
+        pub break-5 : {s₅ : Words} {f : ReadFault} → Until bound Out s₄ (Err f) s₅ → Refuses f (said-of s₀)
         unfolding claim-said
         break-5 {s₅} {f} e =
             let k = b .kept ∙ a .kept in
@@ -71,7 +72,7 @@ module _ {s₀ s₁ : Words} {head : Heading} {bound : ℕ} (is : bound ≡ orde
             let m = d .kept ∙ l in
             rw (a .tells, ← is, carried s₀ (a .kept) b, carried s₀ k c, carried s₀ l d) (broken f _ _ (carried s₀ m e))
 
-        module _ {s₅ : Words} {right : Vec ℕ Global} (e : Until bound (codes "out") s₄ (Ok right) s₅) where
+        module _ {s₅ : Words} {right : Vec ℕ Global} (e : Until bound Out s₄ (Ok right) s₅) where
           pub break-6 : {s₆ : Words} {f : ReadFault} → ToEnd bound s₅ (Err f) s₆ → Refuses f (said-of s₀)
           unfolding claim-said
           break-6 {s₆} {f} g =

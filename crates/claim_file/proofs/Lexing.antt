@@ -1,4 +1,4 @@
--- How the words of a text come byte by byte. Assumes nothing.
+-- How the words of a text come byte by byte.
 use mathlib.Core.Path.{_≡_, refl, sym, ap, subst, _∙_}
 use mathlib.Core.Logic.{_⊎_, inl, inr, ⊎-elim}
 use mathlib.Core.Bool.{Bool, true, false, cond, _||_}
@@ -8,7 +8,7 @@ use native.Mathlib.Omega.{arith}
 use lib.Dec.{eqb}
 use lib.ListN.{length, take, drop, getD}
 use Rattle.std.proofs.shelf.Lists.{drop-drop, getD-drop, length-take-le, length-drop, drop-more, drop-all, take-more}
-use Rattle.std.proofs.shelf.Tests.{cases-lt, or-parts, or-cases, cases-bool, eqb-true, eqb-false, both-ways, false≢true}
+use Rattle.std.proofs.shelf.Tests.{cases-lt, or-parts, or-cases, cases-bool, eqb-true, both-ways, false≢true}
 use Rattle.claim_file.specs.Lexical.{Located, next-line, last-line, blank, bare, ended, words-after}
 use Rattle.claim_file.specs.State.{apart}
 
@@ -78,7 +78,7 @@ word-done n w (b ∷ bs) h = ⊎-elim ends (λ e. ⊎-elim (opens e) (blanks e) 
     blanks : eqb b 10 ≡ false → eqb b 35 ≡ false → words-after n w (bare false (b ∷ bs)) ≡ ended n w ++ words-after n [] (bare false (b ∷ bs))
     blanks e f = on-blank n b w bs e f (white f) ∙ ap (λ x. ended n w ++ x) (sym (on-blank n b [] bs e f (white f)))
 
-ended-some : (n : ℕ) (w : List ℕ) → 0 < length w → ended n w ≡ record { spelling = w; line = n } ∷ []
+pub ended-some : (n : ℕ) (w : List ℕ) → 0 < length w → ended n w ≡ record { spelling = w; line = n } ∷ []
 ended-some n [] h = absurd (omega arith)
 ended-some n (b ∷ w) h = refl
 

@@ -3,3 +3,4 @@ pub mod Lexing
 pub mod Chains
 pub mod Headings
 pub mod Claims
+pub mod ReadBack

@@ -1,4 +1,4 @@
--- The answers of the reader against what the text says. Assumes nothing.
+-- The answers of the reader against what the text says.
 use mathlib.Core.Path.{_≡_}
 use mathlib.Core.List.{List}
 use Prim.Native.Nat.{ℕ}

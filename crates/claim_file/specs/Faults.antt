@@ -1,4 +1,4 @@
--- What each fault tells. Assumes nothing.
+-- What each fault tells.
 use mathlib.Core.List.{List, [], _∷_}
 use Prim.Native.Nat.{ℕ}
 use Rattle.claim_file.specs.declared.ReadFault.{ReadFault}

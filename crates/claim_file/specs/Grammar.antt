@@ -1,5 +1,4 @@
--- What the words of a claim file say. Assumes nothing.
-use mathlib.Core.Path.{_≡_}
+-- What the words of a claim file say.
 use mathlib.Core.Bool.{Bool, cond}
 use mathlib.Core.List.{List, [], _∷_}
 use Prim.Native.Nat.{ℕ, _^_}
@@ -14,6 +13,8 @@ use Rattle.claim_file.specs.declared.FieldName.{FieldName}
 use Rattle.claim_file.specs.declared.FieldName.the-variants.{Mersenne31, Gf256}
 use Rattle.claim_file.specs.declared.ReadFault.the-variants.{UnexpectedWord, TooLarge, Unfinished}
 use Rattle.claim_file.specs.declared.Heading.{Heading}
+use Rattle.claim_file.specs.declared.words.Keyword.{Keyword}
+use Rattle.claim_file.specs.declared.words.Keyword.the-variants.{Field, M, N, Matrix, Vector, Left, Right, Out}
 use Rattle.claim_file.specs.Lexical.{Located, words, last-line}
 use Rattle.claim_file.specs.Numbers.{number-of}
 use Rattle.claim_file.specs.Faults.{Told, told}
@@ -43,9 +44,20 @@ abbrev pub order : FieldName → ℕ
 order Mersenne31 = 2147483647
 order Gf256 = 256
 
--- a word spells a key
-abbrev pub is-key : Located → List ℕ → Bool
-is-key w key = sameBytes (w .spelling) key
+-- how a keyword is spelled
+abbrev pub letters : Keyword → List ℕ
+letters Field = codes "field"
+letters M = codes "m"
+letters N = codes "n"
+letters Matrix = codes "matrix"
+letters Vector = codes "vector"
+letters Left = codes "left"
+letters Right = codes "right"
+letters Out = codes "out"
+
+-- a word is the keyword
+abbrev pub is-key : Located → Keyword → Bool
+is-key w key = sameBytes (w .spelling) (letters key)
 
 -- the number that a word of a line spells: it must spell one, and that below the bound
 abbrev pub bounded : ℕ → ℕ → Option ℕ → Result ℕ Told
@@ -68,7 +80,7 @@ next-word last [] = Err (told (Unfinished last))
 next-word last (w ∷ ws) = Ok (w, ws)
 
 -- a keyword
-unfoldable pub keyword : ℕ → List ℕ → List Located → Said (Unit {0})
+unfoldable pub keyword : ℕ → Keyword → List Located → Said (Unit {0})
 keyword last key ws = and-then (next-word last ws) (λ w ws. cond (is-key w key) (Ok (tt, ws)) (Err (told (UnexpectedWord (w .line)))))
 
 -- the name of a field
@@ -76,8 +88,8 @@ unfoldable pub field-name : ℕ → List Located → Said FieldName
 field-name last ws =
     and-then (next-word last ws)
     (λ w ws.
-    cond (is-key w (codes "mersenne31")) (Ok (Mersenne31, ws))
-    (cond (is-key w (codes "gf256")) (Ok (Gf256, ws)) (Err (told (UnexpectedWord (w .line))))))
+    cond (sameBytes (w .spelling) (codes "mersenne31")) (Ok (Mersenne31, ws))
+    (cond (sameBytes (w .spelling) (codes "gf256")) (Ok (Gf256, ws)) (Err (told (UnexpectedWord (w .line))))))
 
 -- a number with the words after it
 abbrev pub with-rest : List Located → Result ℕ Told → Said ℕ
@@ -85,12 +97,12 @@ with-rest ws (Ok v) = Ok (v, ws)
 with-rest ws (Err t) = Err t
 
 -- a keyword and one number below 2 ^ 32
-unfoldable pub number-after : ℕ → List ℕ → List Located → Said ℕ
+unfoldable pub number-after : ℕ → Keyword → List Located → Said ℕ
 number-after last key ws =
     and-then (keyword last key ws) (λ _ ws. and-then (next-word last ws) (λ w ws. with-rest ws (value-of (2 ^ 32) w)))
 
 -- the numbers below the bound up to the keyword, which is taken too
-unfoldable pub numbers-until : ℕ → ℕ → List ℕ → List Located → Said (List ℕ)
+unfoldable pub numbers-until : ℕ → ℕ → Keyword → List Located → Said (List ℕ)
 numbers-until last bound key [] = Err (told (Unfinished last))
 numbers-until last bound key (w ∷ ws) = cond (is-key w key) (Ok ([], ws)) (in-front (value-of bound w) (numbers-until last bound key ws))
 
@@ -102,20 +114,20 @@ numbers-to-end bound (w ∷ ws) = in-front (value-of bound w) (numbers-to-end bo
 -- field NAME m NUMBER n NUMBER matrix
 unfoldable pub heading : ℕ → List Located → Said Heading
 heading last ws =
-    and-then (keyword last (codes "field") ws) (λ _ ws.
+    and-then (keyword last Field ws) (λ _ ws.
     and-then (field-name last ws) (λ field ws.
-    and-then (number-after last (codes "m") ws) (λ m ws.
-    and-then (number-after last (codes "n") ws) (λ n ws.
-    and-then (keyword last (codes "matrix") ws) (λ _ ws. Ok (record { field = field; m = m; n = n }, ws))))))
+    and-then (number-after last M ws) (λ m ws.
+    and-then (number-after last N ws) (λ n ws.
+    and-then (keyword last Matrix ws) (λ _ ws. Ok (record { field = field; m = m; n = n }, ws))))))
 
 -- a heading, and five lists of elements of the field, with a keyword before each
 unfoldable pub claim-said : ℕ → List Located → Result Claim Told
 claim-said last ws =
     and-then (heading last ws) (λ head ws.
-    and-then (numbers-until last (order (head .field)) (codes "vector") ws) (λ matrix ws.
-    and-then (numbers-until last (order (head .field)) (codes "left") ws) (λ vector ws.
-    and-then (numbers-until last (order (head .field)) (codes "right") ws) (λ left ws.
-    and-then (numbers-until last (order (head .field)) (codes "out") ws) (λ right ws.
+    and-then (numbers-until last (order (head .field)) Vector ws) (λ matrix ws.
+    and-then (numbers-until last (order (head .field)) Left ws) (λ vector ws.
+    and-then (numbers-until last (order (head .field)) Right ws) (λ left ws.
+    and-then (numbers-until last (order (head .field)) Out ws) (λ right ws.
     and-then (numbers-to-end (order (head .field)) ws) (λ out _.
     Ok (record {
       field = head .field;

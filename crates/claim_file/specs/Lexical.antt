@@ -1,4 +1,4 @@
--- The words of a text, each with its line. Assumes nothing.
+-- The words of a text, each with its line.
 use mathlib.Core.Bool.{Bool, true, false, cond, _||_}
 use mathlib.Core.List.{List, [], _∷_, _++_}
 use Prim.Native.Nat.{ℕ, _+_}

@@ -4,3 +4,4 @@ pub mod State
 pub mod Faults
 pub mod Grammar
 pub mod Answer
+pub mod Written

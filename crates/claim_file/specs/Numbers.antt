@@ -1,4 +1,4 @@
--- Which number a word spells. Assumes nothing.
+-- Which number a word spells.
 use mathlib.Core.Bool.{Bool, cond, _&&_}
 use mathlib.Core.List.{List, [], _∷_}
 use Prim.Native.Nat.{ℕ, _+_, _-_, _*_, _^_, min}

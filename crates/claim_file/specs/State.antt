@@ -1,7 +1,7 @@
--- What a reader of words has ahead of it: for the contracts of the functions below `read`. Assumes nothing.
+-- What a reader of words has ahead of it: for the contracts of the functions below `read`.
 use mathlib.Core.Path.{_≡_}
-use mathlib.Core.Bool.{Bool, true, false, _||_}
-use mathlib.Core.List.{List, [], _∷_, _++_}
+use mathlib.Core.Bool.{Bool, false, _||_}
+use mathlib.Core.List.{List, [], _∷_}
 use Prim.Native.Nat.{ℕ, _+_, _≤_, _<_}
 use lib.Dec.{eqb}
 use lib.ListN.{length, drop, getD, take}

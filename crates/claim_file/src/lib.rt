@@ -1,9 +1,14 @@
 // Reads a claim from a text.
 ghost use mathlib.Core.Path.{_≡_};
 ghost use Rattle.claim_file.specs.declared.ReadFault.the-variants.{NoMemory};
+ghost use mathlib.Core.List.{List};
+ghost use Prim.Native.Nat.{ℕ};
 ghost use Rattle.std.specs.Vec.{listOf};
+ghost use Rattle.claim_file.specs.Lexical.{words as located-words};
+ghost use Rattle.claim_file.specs.State.{text-of, ahead};
 ghost use Rattle.claim_file.specs.Faults.{told};
 ghost use Rattle.claim_file.specs.Grammar.{order, heading, read-spec};
+ghost use Rattle.claim_file.specs.Written.{Reads-back};
 ghost use Rattle.claim_file.specs.Answer.{meaning, Tells, Reads};
 use std::alloc::AllocError;
 use std::alloc::Global;
@@ -12,6 +17,7 @@ use std::alloc::Refused;
 mod numbers;
 mod words;
 
+use words::Keyword;
 use words::Words;
 
 // The field that a claim is over.
@@ -113,25 +119,24 @@ pub impl<T: Drop> From<Refused<T>> for ReadFault as ReadFaultFromRefused {
 fn read_heading(words: &mut Words<'_>) -> Result<Heading, ReadFault>
     ensures { λ r. ⌜ Reads (λ x. x) (now (words .entry)) r (now (words .exit)) heading ⌝ }
 {
-    words.keyword(b"field")?;
+    words.keyword(Keyword::Field)?;
     let field = words.field_name()?;
-    let m = words.number_after(b"m")?;
-    let n = words.number_after(b"n")?;
-    words.keyword(b"matrix")?;
+    let m = words.number_after(Keyword::M)?;
+    let n = words.number_after(Keyword::N)?;
+    words.keyword(Keyword::Matrix)?;
     Ok(Heading { field, m, n })
 }
 
-// The claim that a text says, or its first fault.
-pub fn read(heap: Global, text: &[u8]) -> Result<ClaimFile, ReadFault>
-    ensures { λ r. ⌜ Tells meaning r (read-spec (now (text .entry))) ⌝ }
+// The claim that the words ahead say, or their first fault.
+fn read_claim(words: &mut Words<'_>, heap: Global) -> Result<ClaimFile, ReadFault>
+    ensures { λ r. ⌜ ((text : List ℕ) → text-of (now (words .entry)) ≡ text → ahead (now (words .entry)) ≡ located-words text → Tells meaning r (read-spec text)) ⌝ }
 {
-    let mut words = Words::new(text);
-    let Heading { field, m, n } = read_heading(&mut words)?;
+    let Heading { field, m, n } = read_heading(words)?;
     let bound = u64::from(field.order());
-    let matrix = words.numbers_until(heap, bound, b"vector")?;
-    let vector = words.numbers_until(heap, bound, b"left")?;
-    let left = words.numbers_until(heap, bound, b"right")?;
-    let right = words.numbers_until(heap, bound, b"out")?;
+    let matrix = words.numbers_until(heap, bound, Keyword::Vector)?;
+    let vector = words.numbers_until(heap, bound, Keyword::Left)?;
+    let left = words.numbers_until(heap, bound, Keyword::Right)?;
+    let right = words.numbers_until(heap, bound, Keyword::Out)?;
     let out = words.numbers_to_end(heap, bound)?;
     Ok(ClaimFile {
         field,
@@ -143,4 +148,19 @@ pub fn read(heap: Global, text: &[u8]) -> Result<ClaimFile, ReadFault>
         right,
         out,
     })
+}
+
+// The claim that a text says, or its first fault.
+pub fn read(heap: Global, text: &[u8]) -> Result<ClaimFile, ReadFault>
+    ensures { λ r. ⌜ Tells meaning r (read-spec (now (text .entry))) ⌝ }
+{
+    let mut words = Words::new(text);
+    read_claim(&mut words, heap)
+}
+
+// Every claim that a file can say is read back from the text that is written of it.
+pub fn reads_back() -> u8
+    ensures { λ _. ⌜ Reads-back ⌝ }
+{
+    0
 }

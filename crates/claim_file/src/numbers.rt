@@ -1,6 +1,6 @@
 // Which number a word spells.
 ghost use mathlib.Core.Path.{_≡_};
-ghost use Prim.Native.Nat.{ℕ, _≤_};
+ghost use Prim.Native.Nat.{_≤_};
 ghost use Rattle.claim_file.specs.Numbers.{below-base, digit-value, spelled, number-of, capped};
 
 // Stands for every number that is not below it.

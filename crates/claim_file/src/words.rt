@@ -19,3 +19,16 @@ pub(crate) struct Words<'a> {
     line: usize,
     ghost counted: { line ≤ pos + 1 },
 }
+
+// The words that lead the parts of a claim.
+#[derive(Clone, Copy)]
+pub(crate) enum Keyword {
+    Field,
+    M,
+    N,
+    Matrix,
+    Vector,
+    Left,
+    Right,
+    Out,
+}

@@ -1,5 +1,6 @@
 // The registry's program: its built-in example, and the check of claim files.
 mod commands;
+mod example;
 mod show;
 
 use std::env;
@@ -14,7 +15,7 @@ fn run(rt: &LibcRuntime) -> Result<(), AnyError> {
     let mut args = env::args(rt)?;
     let _name = args.next();
     let Some(command) = args.next() else {
-        return Ok(());
+        return example::play(rt);
     };
     match command.as_str() {
         "check" => match args.next() {

@@ -1,8 +1,6 @@
 // The parts of a claim file, each read from the words ahead.
 ghost use mathlib.Core.Path.{_≡_};
-ghost use mathlib.Core.List.{List};
-ghost use Prim.Native.Nat.{ℕ, _^_, _≤_};
-ghost use lib.Chars.{codes};
+ghost use Prim.Native.Nat.{_^_, _≤_};
 ghost use Rattle.std.specs.Of.Vec.{vec-items};
 ghost use Rattle.std.specs.Results.{Cases};
 ghost use Rattle.std.specs.declared.result.Result.the-variants.{Ok, Err};
@@ -10,8 +8,9 @@ ghost use Rattle.std.specs.shelf.Text.{sameBytes};
 ghost use Rattle.claim_file.specs.declared.ReadFault.the-variants.{UnexpectedWord};
 ghost use Rattle.claim_file.specs.State.{located};
 ghost use Rattle.claim_file.specs.Faults.{told};
-ghost use Rattle.claim_file.specs.Grammar.{value-of, next-word, keyword, field-name, number-after, numbers-until, numbers-to-end};
+ghost use Rattle.claim_file.specs.Grammar.{letters, is-key, value-of, next-word, keyword, field-name, number-after, numbers-until, numbers-to-end};
 ghost use Rattle.claim_file.specs.Answer.{Reads};
+use super::Keyword;
 use super::Word;
 use super::Words;
 use super::lex::last_line;
@@ -22,11 +21,36 @@ use crate::numbers::CAP;
 use crate::numbers::number;
 use std::alloc::Global;
 
-// Whether a word is the keyword.
-fn is_key(word: &[u8], key: &[u8]) -> bool
-    ensures { λ r. ⌜ r ≡ sameBytes (now (word .entry)) (now (key .entry)) ⌝ }
+impl Keyword {
+    // How the keyword is spelled.
+    fn letters(self) -> &'static [u8]
+        ensures { λ r. ⌜ now r ≡ letters self ⌝ }
+    {
+        match self {
+            Keyword::Field => b"field",
+            Keyword::M => b"m",
+            Keyword::N => b"n",
+            Keyword::Matrix => b"matrix",
+            Keyword::Vector => b"vector",
+            Keyword::Left => b"left",
+            Keyword::Right => b"right",
+            Keyword::Out => b"out",
+        }
+    }
+}
+
+// Whether a word is spelled so.
+fn same(word: &[u8], letters: &[u8]) -> bool
+    ensures { λ r. ⌜ r ≡ sameBytes (now (word .entry)) (now (letters .entry)) ⌝ }
 {
-    word == key
+    word == letters
+}
+
+// Whether a word is the keyword.
+fn is_key(word: Word<'_>, key: Keyword) -> bool
+    ensures { λ r. ⌜ r ≡ is-key (located (word .entry)) key ⌝ }
+{
+    same(word.bytes, key.letters())
 }
 
 // The fault of a word that is not due where it stands.
@@ -62,11 +86,11 @@ impl<'a> Words<'a> {
     }
 
     // The keyword.
-    pub(crate) fn keyword(&mut self, key: &[u8]) -> Result<(), ReadFault>
-        ensures { λ r. ⌜ Reads (λ x. x) (now (self .entry)) r (now (self .exit)) (λ last. keyword last (now (key .entry))) ⌝ }
+    pub(crate) fn keyword(&mut self, key: Keyword) -> Result<(), ReadFault>
+        ensures { λ r. ⌜ Reads (λ x. x) (now (self .entry)) r (now (self .exit)) (λ last. keyword last key) ⌝ }
     {
         let word = self.due()?;
-        if is_key(word.bytes, key) {
+        if is_key(word, key) {
             Ok(())
         } else {
             Err(unexpected(word))
@@ -78,9 +102,9 @@ impl<'a> Words<'a> {
         ensures { λ r. ⌜ Reads (λ x. x) (now (self .entry)) r (now (self .exit)) field-name ⌝ }
     {
         let word = self.due()?;
-        if is_key(word.bytes, b"mersenne31") {
+        if same(word.bytes, b"mersenne31") {
             Ok(FieldName::Mersenne31)
-        } else if is_key(word.bytes, b"gf256") {
+        } else if same(word.bytes, b"gf256") {
             Ok(FieldName::Gf256)
         } else {
             Err(unexpected(word))
@@ -88,8 +112,8 @@ impl<'a> Words<'a> {
     }
 
     // The keyword, and one number below 2^32.
-    pub(crate) fn number_after(&mut self, key: &[u8]) -> Result<u32, ReadFault>
-        ensures { λ r. ⌜ Reads (λ x. x) (now (self .entry)) r (now (self .exit)) (λ last. number-after last (now (key .entry))) ⌝ }
+    pub(crate) fn number_after(&mut self, key: Keyword) -> Result<u32, ReadFault>
+        ensures { λ r. ⌜ Reads (λ x. x) (now (self .entry)) r (now (self .exit)) (λ last. number-after last key) ⌝ }
     {
         self.keyword(key)?;
         let word = self.due()?;
@@ -101,15 +125,15 @@ impl<'a> Words<'a> {
         &mut self,
         heap: Global,
         bound: u64,
-        key: &[u8],
+        key: Keyword,
     ) -> Result<Vec<u32>, ReadFault>
         requires { ⌜ bound ≤ 2 ^ 32 ⌝ }
-        ensures { λ r. ⌜ Reads vec-items (now (self .entry)) r (now (self .exit)) (λ last. numbers-until last bound (now (key .entry))) ⌝ }
+        ensures { λ r. ⌜ Reads vec-items (now (self .entry)) r (now (self .exit)) (λ last. numbers-until last bound key) ⌝ }
     {
         let mut list = Vec::new(heap);
         loop {
             let word = self.due()?;
-            if is_key(word.bytes, key) {
+            if is_key(word, key) {
                 return Ok(list);
             }
             list.push(value(word, bound)?)?;

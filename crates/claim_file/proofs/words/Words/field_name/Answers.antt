@@ -1,4 +1,4 @@
-use mathlib.Core.Path.{refl, sym}
+use mathlib.Core.Path.{refl}
 use Rattle.std.proofs.shelf.Results.{err-from-errBy}
 use Rattle.claim_file.specs.Grammar.{field-name}
 use Rattle.claim_file.proofs.Chains.{broken, at-err}
@@ -11,20 +11,20 @@ returns-in-Break-word c =
     let t = c .in-Break-word .ensures tt in
     at-err (p .1) (p .2) (record { tells = broken _ _ _ (t .tells); kept = t .kept })
 
-pub returns-then-is-key : need.returns-then-is-key
+pub returns-then-same : need.returns-then-same
 unfolding field-name
-returns-then-is-key c =
+returns-then-same c =
     let t = c .in-Continue-word .ensures tt in
-    record { tells = rw (t .tells, ← c .if-is-key .ensures tt); kept = t .kept }
+    record { tells = rw (t .tells, ← c .if-same .ensures tt); kept = t .kept }
 
-pub returns-then-is-key-2 : need.returns-then-is-key-2
+pub returns-then-same-2 : need.returns-then-same-2
 unfolding field-name
-returns-then-is-key-2 c =
+returns-then-same-2 c =
     let t = c .in-Continue-word .ensures tt in
-    record { tells = rw (t .tells, ← c .if-is-key .ensures tt, ← c .if-is-key-2 .ensures tt); kept = t .kept }
+    record { tells = rw (t .tells, ← c .if-same .ensures tt, ← c .if-same-2 .ensures tt); kept = t .kept }
 
-pub returns-else-is-key-2 : need.returns-else-is-key-2
+pub returns-else-same-2 : need.returns-else-same-2
 unfolding field-name
-returns-else-is-key-2 c =
+returns-else-same-2 c =
     let t = c .in-Continue-word .ensures tt in
-    at-err refl (c .unexpected .ensures) (record { tells = rw (t .tells, ← c .if-is-key .ensures tt, ← c .if-is-key-2 .ensures tt); kept = t .kept })
+    at-err refl (c .unexpected .ensures) (record { tells = rw (t .tells, ← c .if-same .ensures tt, ← c .if-same-2 .ensures tt); kept = t .kept })

@@ -1,5 +1,5 @@
 use mathlib.Core.Path.{_≡_, sym, ap, subst, _∙_}
-use mathlib.Core.List.{List, _∷_}
+use mathlib.Core.List.{_∷_}
 use native.Mathlib.Omega.{arith}
 use lib.ListN.{length}
 use Rattle.std.proofs.shelf.Results.{err-from-errBy}
@@ -16,7 +16,7 @@ returns-in-Break-word c =
     let p = err-from-errBy (c .from-residual .result) (c .from-residual .ensures .1) in
     let t = c .in-Break-word .ensures tt in
     let last = last-line 1 (text-of (c .args .self .now)) in
-    let none = until-none last (c .args .bound) (c .args .key .now) (c .in-Break-word .field-0 .0) (vec-items (c .loop-list .list)) (ahead (c .loop-list .self)) (carried (c .args .self .now) (c .loop-list .inv .0) t) in
+    let none = until-none last (c .args .bound) (c .args .key) (c .in-Break-word .field-0 .0) (vec-items (c .loop-list .list)) (ahead (c .loop-list .self)) (carried (c .args .self .now) (c .loop-list .inv .0) t) in
     at-err (p .1) (p .2) (record { tells = subst (Refuses (c .in-Break-word .field-0 .0)) (c .loop-list .inv .1) none; kept = t .kept ∙ c .loop-list .inv .0 })
 
 pub returns-then-is-key : need.returns-then-is-key
@@ -49,5 +49,5 @@ loop-list-again c =
     let t = c .in-Continue-word .ensures tt in
     let w = word-next _ _ _ _ (t .tells) in
     let last = last-line 1 (text-of (c .args .self .now)) in
-    let more = until-more last (c .args .bound) (c .args .key .now) (vec-items (c .loop-list .list)) _ _ _ _ w (c .if-is-key .ensures tt) (c .in-Continue-value .ensures tt) in
-    (t .kept ∙ c .loop-list .inv .0, ap (λ l. prefixed l (numbers-until last (c .args .bound) (c .args .key .now) (ahead (c .due .last .self)))) (c .in-Continue-push .ensures tt .items) ∙ (more ∙ c .loop-list .inv .1))
+    let more = until-more last (c .args .bound) (c .args .key) (vec-items (c .loop-list .list)) _ _ _ _ w (c .if-is-key .ensures tt) (c .in-Continue-value .ensures tt) in
+    (t .kept ∙ c .loop-list .inv .0, ap (λ l. prefixed l (numbers-until last (c .args .bound) (c .args .key) (ahead (c .due .last .self)))) (c .in-Continue-push .ensures tt .items) ∙ (more ∙ c .loop-list .inv .1))

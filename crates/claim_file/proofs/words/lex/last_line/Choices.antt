@@ -1,6 +1,6 @@
 use mathlib.Core.Path.{_≡_}
 use Prim.Native.Nat.{_-_, _≤_}
-use lib.ListN.{length, drop}
+use lib.ListN.{drop}
 use Rattle.claim_file.specs.Lexical.{last-line}
 use Rattle.claim_file.proofs.words.lex.last_line.Given as given
 

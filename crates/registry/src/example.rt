@@ -1,0 +1,156 @@
+// The built-in example: a multivariate quadratic signature over the field of 256 elements.
+ghost use mathlib.Core.Path.{_≡_};
+ghost use mathlib.Core.List.{map};
+ghost use Rattle.std.specs.Of.Vec.{vec-items};
+ghost use Rattle.std.specs.Vec.{made};
+use crate::show::finding;
+use gf256::Gf256;
+use gf256::Gf256Field;
+use prover::Finding;
+use prover::FindingPartialEq;
+use prover::audit;
+use quadratic::Encoding;
+use quadratic::encode;
+use std::alloc::AllocError;
+use std::alloc::Global;
+use std::error::AnyError;
+
+const VARIABLES: usize = 6;
+
+// The variables that each gate multiplies, counted from 0.
+const PAIRS: [(usize, usize); 6] = [(0, 1), (2, 3), (4, 5), (0, 3), (1, 4), (2, 5)];
+
+// Four equations: a constant, a coefficient for each variable, and one for each pair.
+const SYSTEM: &[u8; 52] = b"\
+    \x07\x43\x53\x0a\x60\x3c\x14\xf8\xe9\x32\x68\xd4\x72\
+    \x56\x4e\xfa\xd3\xfc\x9a\xf6\x98\x27\x7c\xd5\x7a\xf3\
+    \xfd\xb5\x61\x94\xa4\x8a\xaf\xff\x2f\xb8\xba\x91\xbf\
+    \x98\x9f\x97\xd8\x83\x2c\x57\xb6\xb9\x5c\xf8\xca\x7e";
+
+// The entries of an equation, and of a row of the claim's matrix.
+const TERMS: usize = 13;
+
+const WIDTH: usize = 19;
+
+const DIGEST: &[u8; 4] = b"\xcd\x79\xb6\x3a";
+
+const SIGNATURE: &[u8; 6] = b"\x55\x61\x27\x6c\x93\xb4";
+
+// The same with its third byte forged.
+const FORGED: &[u8; 6] = b"\x55\x61\x28\x6c\x93\xb4";
+
+// Prints the system and the digest, and then both signatures, each with its claim and what the check finds.
+pub fn play(rt: &LibcRuntime) -> Result<(), AnyError> {
+    rt.println(
+        "A multivariate quadratic signature over the field of 256 elements, in hexadecimal",
+    )?;
+    rt.println("")?;
+    rt.println("system: 4 equations in the variables s1 to s6")?;
+    print_system(rt)?;
+    print_bytes(rt, "digest y:", DIGEST)?;
+    rt.println("")?;
+    print_bytes(rt, "signature s:", SIGNATURE)?;
+    judge(rt, SIGNATURE)?;
+    rt.println("")?;
+    print_bytes(rt, "the same with its third byte forged:", FORGED)?;
+    judge(rt, FORGED)
+}
+
+// Turns a signature into a claim, prints it, and prints what the check finds.
+fn judge(rt: &LibcRuntime, signature: &[u8]) -> Result<(), AnyError> {
+    let heap = rt.alloc();
+    let system = elements(heap, SYSTEM)?;
+    let digest = elements(heap, DIGEST)?;
+    let signature = elements(heap, signature)?;
+    let Ok(claim) = encode(heap, VARIABLES, &PAIRS, &system, &signature, &digest) else {
+        return Err("the example was not encoded".into());
+    };
+    print_claim(rt, &claim)?;
+    match audit(
+        claim.m,
+        claim.n,
+        &claim.matrix,
+        &claim.vector,
+        &claim.left,
+        &claim.right,
+        &claim.out,
+    ) {
+        Ok(found) => print_verdict(rt, found),
+        Err(_) => Err("the example was refused".into()),
+    }
+}
+
+// The claim's sizes, its matrix row by row, its vector and its wires.
+fn print_claim(rt: &LibcRuntime, claim: &Encoding<Gf256>) -> Result<(), AnyError> {
+    println!(rt, "claim: m = {} rows, n = {} gates", claim.m, claim.n)?;
+    rt.print("  matrix M, with a column for 1 and for each entry of wl, wr and wo:")?;
+    for (i, x) in claim.matrix.iter().enumerate() {
+        if i % WIDTH == 0 {
+            rt.print("\n   ")?;
+        }
+        print!(rt, " {:02x}", x.0)?;
+    }
+    rt.println("")?;
+    print_row(rt, "  vector x:", &claim.vector)?;
+    print_row(rt, "  wires wl:", &claim.left)?;
+    print_row(rt, "        wr:", &claim.right)?;
+    print_row(rt, "        wo:", &claim.out)
+}
+
+// Yes or no, and why.
+fn print_verdict(rt: &LibcRuntime, found: Finding) -> Result<(), AnyError> {
+    let verdict = found == Finding::AllHold;
+    println!(rt, "check: {verdict}; {}", finding(rt.alloc(), found)?)?;
+    Ok(())
+}
+
+// The equations, each as its constant, its linear and its quadratic part.
+fn print_system(rt: &LibcRuntime) -> Result<(), AnyError> {
+    for (i, c) in SYSTEM.iter().enumerate() {
+        let term = i % TERMS;
+        if term == 0 {
+            print!(rt, "  y{} = {c:02x}", i / TERMS + 1)?;
+        } else if term <= VARIABLES {
+            print!(rt, " + {c:02x}*s{term}")?;
+        } else {
+            let (a, b) = PAIRS[term - VARIABLES - 1];
+            print!(
+                rt,
+                " + {c:02x}*s{}*s{}",
+                a.saturating_add(1),
+                b.saturating_add(1)
+            )?;
+        }
+        if term + 1 == TERMS {
+            rt.println("")?;
+        }
+    }
+    Ok(())
+}
+
+// A label and values, on one line.
+fn print_row(rt: &LibcRuntime, label: &str, row: &[Gf256]) -> Result<(), AnyError> {
+    rt.print(label)?;
+    for x in row {
+        print!(rt, " {:02x}", x.0)?;
+    }
+    rt.println("")?;
+    Ok(())
+}
+
+// A label and bytes, on one line.
+fn print_bytes(rt: &LibcRuntime, label: &str, bytes: &[u8]) -> Result<(), AnyError> {
+    let row = elements(rt.alloc(), bytes)?;
+    print_row(rt, label, &row)
+}
+
+// The values that bytes stand for.
+fn elements(heap: Global, bytes: &[u8]) -> Result<Vec<Gf256>, AllocError>
+    ensures { λ r. ⌜ made r (λ v. vec-items v ≡ map (λ b. record { 0 = b }) (now (bytes .entry))) ⌝ }
+{
+    let mut list = Vec::new(heap);
+    for b in bytes {
+        list.push(Gf256(*b))?;
+    }
+    Ok(list)
+}
