@@ -19,32 +19,41 @@ usage:
     registry --help        this text
     registry --version     the version
 
-check prints true or false, or the refusal by its number and in words, and then
+check prints true, false, or the refusal by its number and in words. A refusal
 ends with status 1. docs/CLAIM-FILE.md has the format of FILE.";
 
+// How a command ends that could be carried out.
+pub enum Ending {
+    Done,
+    Refused,
+}
+
 // Reads the claim in a file and prints whether it is true, or why it was refused.
-pub fn check(rt: &LibcRuntime, path: &str) -> Result<(), AnyError> {
-    let text = fs::read(rt, path)?;
+pub fn check(rt: &LibcRuntime, path: &str) -> Result<Ending, AnyError> {
+    let text = match fs::read(rt, path) {
+        Ok(text) => text,
+        Err(e) => return Err(format!(rt.alloc(), "{path}: {e}")?.into()),
+    };
     match check_text(rt.alloc(), &text) {
         Ok(Finding::AllHold) => rt.println("true")?,
         Ok(found) => {
             rt.println("false")?;
-            eprintln!(rt, "{}", finding(rt.alloc(), found)?)?;
+            eprintln!(rt, "{path}: {}", finding(rt.alloc(), found)?)?;
         }
         Err(fault) => {
             println!(rt, "{}", check_fault(rt.alloc(), fault)?)?;
-            return Err("the claim was not checked".into());
+            return Ok(Ending::Refused);
         }
     }
-    Ok(())
+    Ok(Ending::Done)
 }
 
-pub fn help(rt: &LibcRuntime) -> Result<(), AnyError> {
+pub fn help(rt: &LibcRuntime) -> Result<Ending, AnyError> {
     rt.println(HELP)?;
-    Ok(())
+    Ok(Ending::Done)
 }
 
-pub fn version(rt: &LibcRuntime) -> Result<(), AnyError> {
+pub fn version(rt: &LibcRuntime) -> Result<Ending, AnyError> {
     println!(rt, "registry {VERSION}")?;
-    Ok(())
+    Ok(Ending::Done)
 }

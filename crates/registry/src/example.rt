@@ -3,7 +3,10 @@ ghost use mathlib.Core.Path.{_≡_};
 ghost use mathlib.Core.List.{map};
 ghost use Rattle.std.specs.Of.Vec.{vec-items};
 ghost use Rattle.std.specs.Vec.{made};
+use crate::commands::Ending;
+use crate::show::check_fault;
 use crate::show::finding;
+use claim_check::CheckFault;
 use gf256::Gf256;
 use gf256::Gf256Field;
 use prover::Finding;
@@ -39,8 +42,9 @@ const SIGNATURE: &[u8; 6] = b"\x55\x61\x27\x6c\x93\xb4";
 // The same with its third byte forged.
 const FORGED: &[u8; 6] = b"\x55\x61\x28\x6c\x93\xb4";
 
-// Prints the system and the digest, and then both signatures, each with its claim and what the check finds.
-pub fn play(rt: &LibcRuntime) -> Result<(), AnyError> {
+// Prints the system and the digest, then the signature as a claim and what the check finds of it, and then the
+// same for the forged signature.
+pub fn play(rt: &LibcRuntime) -> Result<Ending, AnyError> {
     rt.println(
         "A multivariate quadratic signature over the field of 256 elements, in hexadecimal",
     )?;
@@ -50,22 +54,49 @@ pub fn play(rt: &LibcRuntime) -> Result<(), AnyError> {
     print_bytes(rt, "digest y:", DIGEST)?;
     rt.println("")?;
     print_bytes(rt, "signature s:", SIGNATURE)?;
-    judge(rt, SIGNATURE)?;
+    let claim = encoded(rt.alloc(), SIGNATURE)?;
+    print_statement(rt, &claim)?;
+    print_wires(rt, &claim)?;
+    print_verdict(rt, &claim)?;
     rt.println("")?;
     print_bytes(rt, "the same with its third byte forged:", FORGED)?;
-    judge(rt, FORGED)
+    let forged = encoded(rt.alloc(), FORGED)?;
+    rt.println("claim: matrix and vector are the same")?;
+    print_wires(rt, &forged)?;
+    print_verdict(rt, &forged)?;
+    Ok(Ending::Done)
 }
 
-// Turns a signature into a claim, prints it, and prints what the check finds.
-fn judge(rt: &LibcRuntime, signature: &[u8]) -> Result<(), AnyError> {
-    let heap = rt.alloc();
+// The claim that a signature solves the system.
+fn encoded(heap: Global, signature: &[u8]) -> Result<Encoding<Gf256>, AnyError> {
     let system = elements(heap, SYSTEM)?;
     let digest = elements(heap, DIGEST)?;
     let signature = elements(heap, signature)?;
-    let Ok(claim) = encode(heap, VARIABLES, &PAIRS, &system, &signature, &digest) else {
-        return Err("the example was not encoded".into());
-    };
-    print_claim(rt, &claim)?;
+    match encode(heap, VARIABLES, &PAIRS, &system, &signature, &digest) {
+        Ok(claim) => Ok(claim),
+        Err(e) => Err(format!(heap, "the example is refused with {}", e.number())?.into()),
+    }
+}
+
+// The claim's sizes, its matrix row by row, and its vector.
+fn print_statement(rt: &LibcRuntime, claim: &Encoding<Gf256>) -> Result<(), AnyError> {
+    println!(rt, "claim: m = {} rows, n = {} gates", claim.m, claim.n)?;
+    rt.println("  matrix M, with a column for 1 and for each entry of wl, wr and wo:")?;
+    for row in claim.matrix.chunks(WIDTH) {
+        print_row(rt, "   ", row)?;
+    }
+    print_row(rt, "  vector x:", &claim.vector)
+}
+
+fn print_wires(rt: &LibcRuntime, claim: &Encoding<Gf256>) -> Result<(), AnyError> {
+    print_row(rt, "  wires wl:", &claim.left)?;
+    print_row(rt, "        wr:", &claim.right)?;
+    print_row(rt, "        wo:", &claim.out)
+}
+
+// Checks the claim, and prints yes or no, and why.
+fn print_verdict(rt: &LibcRuntime, claim: &Encoding<Gf256>) -> Result<(), AnyError> {
+    let heap = rt.alloc();
     match audit(
         claim.m,
         claim.n,
@@ -75,32 +106,12 @@ fn judge(rt: &LibcRuntime, signature: &[u8]) -> Result<(), AnyError> {
         &claim.right,
         &claim.out,
     ) {
-        Ok(found) => print_verdict(rt, found),
-        Err(_) => Err("the example was refused".into()),
-    }
-}
-
-// The claim's sizes, its matrix row by row, its vector and its wires.
-fn print_claim(rt: &LibcRuntime, claim: &Encoding<Gf256>) -> Result<(), AnyError> {
-    println!(rt, "claim: m = {} rows, n = {} gates", claim.m, claim.n)?;
-    rt.print("  matrix M, with a column for 1 and for each entry of wl, wr and wo:")?;
-    for (i, x) in claim.matrix.iter().enumerate() {
-        if i % WIDTH == 0 {
-            rt.print("\n   ")?;
+        Ok(found) => {
+            let verdict = found == Finding::AllHold;
+            println!(rt, "check: {verdict}; {}", finding(heap, found)?)?;
         }
-        print!(rt, " {:02x}", x.0)?;
+        Err(e) => println!(rt, "{}", check_fault(heap, CheckFault::Refused(e))?)?,
     }
-    rt.println("")?;
-    print_row(rt, "  vector x:", &claim.vector)?;
-    print_row(rt, "  wires wl:", &claim.left)?;
-    print_row(rt, "        wr:", &claim.right)?;
-    print_row(rt, "        wo:", &claim.out)
-}
-
-// Yes or no, and why.
-fn print_verdict(rt: &LibcRuntime, found: Finding) -> Result<(), AnyError> {
-    let verdict = found == Finding::AllHold;
-    println!(rt, "check: {verdict}; {}", finding(rt.alloc(), found)?)?;
     Ok(())
 }
 

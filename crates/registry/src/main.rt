@@ -3,15 +3,23 @@ mod commands;
 mod example;
 mod show;
 
+use commands::Ending;
 use std::env;
 use std::error::AnyError;
 
 fn main(rt: LibcRuntime) -> Result<(), AnyError> {
-    rt.report(run(&rt))
+    match run(&rt) {
+        Ok(Ending::Done) => Ok(()),
+        Ok(Ending::Refused) => Err("refused".into()),
+        Err(e) => {
+            eprintln!(rt, "registry: {e}")?;
+            Err(e)
+        }
+    }
 }
 
 // Carries out the command that the arguments say.
-fn run(rt: &LibcRuntime) -> Result<(), AnyError> {
+fn run(rt: &LibcRuntime) -> Result<Ending, AnyError> {
     let mut args = env::args(rt)?;
     let _name = args.next();
     let Some(command) = args.next() else {
@@ -20,10 +28,10 @@ fn run(rt: &LibcRuntime) -> Result<(), AnyError> {
     match command.as_str() {
         "check" => match args.next() {
             Some(path) => commands::check(rt, path.as_str()),
-            None => Err("check: no file is named; see --help".into()),
+            None => Err("check: no file is named; see registry --help".into()),
         },
         "--help" => commands::help(rt),
         "--version" => commands::version(rt),
-        _ => Err("unknown command; see --help".into()),
+        _ => Err("no such command; see registry --help".into()),
     }
 }
