@@ -1,18 +1,22 @@
 use mathlib.Core.Path.{_≡_, sym, ap₂, _∙_}
-use mathlib.Core.List.{List, map}
-use Prim.Native.Nat.{ℕ, _<_}
+use mathlib.Core.List.{map}
 use native.Mathlib.Omega.{arith}
-use lib.ListN.{length, getD}
-use Rattle.field.specs.Field.{Ops}
 use Rattle.algebra.specs.Polynomials.{coeff}
 use Rattle.polynomial.proofs.Coefficients.{coeff-read}
 use Rattle.prover.proofs.Errors.{same-more, differ-here}
+use Rattle.prover.proofs.relation.first_gate_off.Given as given
 use Rattle.prover.proofs.relation.first_gate_off.Needs as need
+use Rattle.prover.proofs.relation.first_gate_off.Needs.{After-same}
 
--- the product of the entries that were read
-product-read : {X K : Type 0} (f : Ops K) (mean : X → K) (xs ys : List X) (i : ℕ) (x y p : X) → i < length xs → i < length ys → x ≡ getD xs i x → y ≡ getD ys i y
-    → mean p ≡ f .mul (mean x) (mean y) → mean p ≡ f .mul (coeff f (map mean xs) i) (coeff f (map mean ys) i)
-product-read f mean xs ys i x y p hx hy ex ey e = e ∙ ap₂ (f .mul) (coeff-read f mean xs i x hx ex) (coeff-read f mean ys i y hy ey)
+-- the product of gate i, by the entries that were read
+product-read : (g : given.Over) (c : After-same g)
+    → g .F·Field .mean (c .times .result)
+    ≡ g .F·Field .ops .mul (coeff (g .F·Field .ops) (map (g .F·Field .mean) (c .args .left .now)) (c .loop-i .i)) (coeff (g .F·Field .ops) (map (g .F·Field .mean) (c .args .right .now)) (c .loop-i .i))
+product-read g c =
+    let f = g .F·Field in
+    c .times .ensures .means
+    ∙ ap₂ (f .ops .mul) (coeff-read (f .ops) (f .mean) (c .args .left .now) (c .loop-i .i) (c .index-left-i .result) (omega arith) (c .index-left-i .is))
+    (coeff-read (f .ops) (f .mean) (c .args .right .now) (c .loop-i .i) (c .index-right-i .result) (omega arith) (c .index-right-i .is))
 
 pub loop-i-again : need.loop-i-again
 loop-i-again g c =
@@ -20,10 +24,8 @@ loop-i-again g c =
     let l = coeff (f .ops) (map (f .mean) (c .args .left .now)) in
     let r = coeff (f .ops) (map (f .mean) (c .args .right .now)) in
     let o = coeff (f .ops) (map (f .mean) (c .args .out .now)) in
-    let i = c .loop-i .i in
-    same-more (f .ops) (g .F·Field·met .lawful) (λ k. f .ops .mul (l k) (r k)) o i (f .mean (c .times .result)) (f .mean (c .index-out-i .result))
-    (product-read (f .ops) (f .mean) (c .args .left .now) (c .args .right .now) i (c .index-left-i .result) (c .index-right-i .result) (c .times .result) (omega arith) (omega arith) (c .index-left-i .is) (c .index-right-i .is) (c .times .ensures .means))
-    (coeff-read (f .ops) (f .mean) (c .args .out .now) i (c .index-out-i .result) (omega arith) (c .index-out-i .is))
+    same-more (f .ops) (g .F·Field·met .lawful) (λ k. f .ops .mul (l k) (r k)) o (c .loop-i .i) (f .mean (c .times .result)) (f .mean (c .index-out-i .result))
+    (product-read g (need.at·loop-i-again g c .After-same)) (coeff-read (f .ops) (f .mean) (c .args .out .now) (c .loop-i .i) (c .index-out-i .result) (omega arith) (c .index-out-i .is))
     (c .loop-i .inv) (sym (c .if-not-same .ensures tt))
 
 pub returns-then-not-same : need.returns-then-not-same
@@ -32,11 +34,10 @@ returns-then-not-same g c =
     let l = coeff (f .ops) (map (f .mean) (c .args .left .now)) in
     let r = coeff (f .ops) (map (f .mean) (c .args .right .now)) in
     let o = coeff (f .ops) (map (f .mean) (c .args .out .now)) in
-    let i = c .loop-i .i in (
-      c .loop-i-test .taken,
-      c .loop-i .inv,
-      differ-here (f .ops) (g .F·Field·met .lawful) (λ k. f .ops .mul (l k) (r k)) o i (f .mean (c .times .result)) (f .mean (c .index-out-i .result))
-          (product-read (f .ops) (f .mean) (c .args .left .now) (c .args .right .now) i (c .index-left-i .result) (c .index-right-i .result) (c .times .result) (omega arith) (omega arith) (c .index-left-i .is) (c .index-right-i .is) (c .times .ensures .means))
-          (coeff-read (f .ops) (f .mean) (c .args .out .now) i (c .index-out-i .result) (omega arith) (c .index-out-i .is))
-          (sym (c .if-not-same .ensures tt)),
+    (
+        c .loop-i-test .taken,
+        c .loop-i .inv,
+        differ-here (f .ops) (g .F·Field·met .lawful) (λ k. f .ops .mul (l k) (r k)) o (c .loop-i .i) (f .mean (c .times .result)) (f .mean (c .index-out-i .result))
+        (product-read g (need.at·returns-then-not-same g c .After-same)) (coeff-read (f .ops) (f .mean) (c .args .out .now) (c .loop-i .i) (c .index-out-i .result) (omega arith) (c .index-out-i .is))
+        (sym (c .if-not-same .ensures tt)),
     )
