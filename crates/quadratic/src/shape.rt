@@ -21,6 +21,7 @@ pub(crate) struct Shape {
 pub(crate) fn shape_of(variables: usize, gates: usize, equations: usize) -> Option<Shape>
     ensures { λ r. ⌜ elim r [ None ↦ Unit {0} | Some s ↦ Shaped variables gates equations (s .rows) (s .cells) ] ⌝ }
 {
+    // the number of coefficients is not kept, but must fit too
     equations.checked_mul(terms_of(variables, gates)?)?;
     let rows = equations.checked_add(gates.checked_mul(2)?)?;
     let width = gates.checked_mul(3)?.checked_add(1)?;

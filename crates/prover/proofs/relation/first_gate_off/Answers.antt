@@ -33,11 +33,10 @@ returns-then-not-same g c =
     let f = g .F·Field in
     let l = coeff (f .ops) (map (f .mean) (c .args .left .now)) in
     let r = coeff (f .ops) (map (f .mean) (c .args .right .now)) in
-    let o = coeff (f .ops) (map (f .mean) (c .args .out .now)) in
-    (
-        c .loop-i-test .taken,
-        c .loop-i .inv,
-        differ-here (f .ops) (g .F·Field·met .lawful) (λ k. f .ops .mul (l k) (r k)) o (c .loop-i .i) (f .mean (c .times .result)) (f .mean (c .index-out-i .result))
-        (product-read g (need.at·returns-then-not-same g c .After-same)) (coeff-read (f .ops) (f .mean) (c .args .out .now) (c .loop-i .i) (c .index-out-i .result) (omega arith) (c .index-out-i .is))
-        (sym (c .if-not-same .ensures tt)),
+    let o = coeff (f .ops) (map (f .mean) (c .args .out .now)) in (
+      c .loop-i-test .taken,
+      c .loop-i .inv,
+      differ-here (f .ops) (g .F·Field·met .lawful) (λ k. f .ops .mul (l k) (r k)) o (c .loop-i .i) (f .mean (c .times .result)) (f .mean (c .index-out-i .result))
+          (product-read g (need.at·returns-then-not-same g c .After-same)) (coeff-read (f .ops) (f .mean) (c .args .out .now) (c .loop-i .i) (c .index-out-i .result) (omega arith) (c .index-out-i .is))
+          (sym (c .if-not-same .ensures tt)),
     )
