@@ -26,7 +26,7 @@ join zero a b i = b i
 join (suc n) a b zero = a 0
 join (suc n) a b (suc i) = join n (λ k. a (suc k)) b i
 
--- the vector (1, wl, wr, wo), each wire filled with zeros to n
+-- the vector (1, wl, wr, wo), a wire shorter than n filled with zeros to n; no claim that is looked at has a longer one
 abbrev pub wires : {K : Type 0} → Ops K → Claim K → ℕ → K
 wires f s = join 1 (λ _. f .one) (join (s .n) (coeff f (s .left)) (join (s .n) (coeff f (s .right)) (coeff f (s .out))))
 

@@ -7,6 +7,9 @@ ghost use Rattle.claim_file.specs.Answer.{meaning};
 ghost use Rattle.claim_file.specs.declared.ReadFault.the-variants.{NoMemory};
 ghost use Rattle.claim_check.specs.declared.CheckFault.the-variants.{Unreadable as unreadable, Refused as refused};
 ghost use Rattle.claim_check.specs.Outcome.{told, Audits, Answers};
+
+mod words;
+
 use claim_file::ClaimFile;
 use claim_file::FieldName;
 use claim_file::ReadFault;
@@ -26,6 +29,8 @@ use prover::RefusalDebug;
 use prover::RefusalPartialEq;
 use std::alloc::AllocError;
 use std::alloc::Global;
+pub use words::finding;
+pub use words::verdict;
 
 // Why a text is not checked: it says no claim, or one that is refused.
 #[derive(Clone, Copy, PartialEq, Eq, Debug)]

@@ -159,8 +159,6 @@ pub fn read(heap: Global, text: &[u8]) -> Result<ClaimFile, ReadFault>
 }
 
 // Every claim that a file can say is read back from the text that is written of it.
-pub fn reads_back() -> u8
+pub fn reads_back()
     ensures { λ _. ⌜ Reads-back ⌝ }
-{
-    0
-}
+{}

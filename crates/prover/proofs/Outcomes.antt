@@ -11,7 +11,7 @@ use Rattle.field.specs.Field.{Ops}
 use Rattle.algebra.specs.Relation.{Claim, Holds}
 use Rattle.prover.specs.Claims.{claimed, in-range, in-shape}
 use Rattle.prover.specs.Refusals.{refusal}
-use Rattle.prover.specs.Findings.{Right}
+use Rattle.prover.specs.Findings.{Correct}
 use Rattle.prover.specs.declared.relation.Finding.{Finding}
 use Rattle.prover.specs.declared.relation.Finding.the-variants.{RowFails, GateFails}
 
@@ -29,6 +29,6 @@ module _ {X K : Type 0} (mean : X → K) (span m n : ℕ) (matrix vector left ri
   refused-lengths r t = ap₂ (λ x y. cond x (cond y None (Some (13, []))) (Some (12, []))) r (same-shape ∙ t)
 
 -- a finding that names a row or a gate
-pub wrong : {K : Type 0} (f : Ops K) (s : Claim K) (found : Finding) → ((i : ℕ) × (found ≡ RowFails i)) ⊎ ((i : ℕ) × (found ≡ GateFails i)) → Right f s found → Holds f s → ⊥
-wrong f s found (inl (i, e)) r h = let (l, below, off) = subst (Right f s) e r in off (h .rows-hold i l)
-wrong f s found (inr (i, e)) r h = let (rows, (l, below, off)) = subst (Right f s) e r in off (h .gates-hold i l)
+pub wrong : {K : Type 0} (f : Ops K) (s : Claim K) (found : Finding) → ((i : ℕ) × (found ≡ RowFails i)) ⊎ ((i : ℕ) × (found ≡ GateFails i)) → Correct f s found → Holds f s → ⊥
+wrong f s found (inl (i, e)) r h = let (l, below, off) = subst (Correct f s) e r in off (h .rows-hold i l)
+wrong f s found (inr (i, e)) r h = let (rows, (l, below, off)) = subst (Correct f s) e r in off (h .gates-hold i l)

@@ -20,14 +20,14 @@ First-off f n c None = Zero-below f n c
 First-off f n c (Some i) = (i < n) × Zero-below f i c × (c i ≡ f .nil → ⊥)
 
 -- the finding is right: the claim is true; or the first row that fails; or, where every row holds, the first gate that fails
-abbrev pub Right : {K : Type 0} → Ops K → Claim K → Finding → Type 0
-Right f s AllHold = Holds f s
-Right f s (RowFails i) = First-off f (s .m) (row-error f s) (Some i)
-Right f s (GateFails i) = Zero-below f (s .m) (row-error f s) × First-off f (s .n) (gate-error f s) (Some i)
+abbrev pub Correct : {K : Type 0} → Ops K → Claim K → Finding → Type 0
+Correct f s AllHold = Holds f s
+Correct f s (RowFails i) = First-off f (s .m) (row-error f s) (Some i)
+Correct f s (GateFails i) = Zero-below f (s .m) (row-error f s) × First-off f (s .n) (gate-error f s) (Some i)
 
 -- what `audit` answers of a claim
 abbrev pub Audited : {K : Type 0} → Ops K → Claim K → Result Finding Refusal → Type 0
-Audited f s (Ok found) = (refusal (f .span) s ≡ None) × Right f s found
+Audited f s (Ok found) = (refusal (f .span) s ≡ None) × Correct f s found
 Audited f s (Err e) = refusal (f .span) s ≡ Some (told e)
 
 -- what `check` answers of a claim: yes exactly where it is true

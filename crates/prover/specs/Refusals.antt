@@ -23,5 +23,5 @@ told BadLength = (13, [])
 abbrev pub refusal : {K : Type 0} → ℕ → Claim K → Option Told
 refusal span s =
     cond (in-range span (s .m) (s .n))
-    (cond (in-shape (s .m) (s .n) (length (s .matrix)) (length (s .vector)) (length (s .left)) (length (s .right)) (length (s .out))) None (Some (13, [])))
-    (Some (12, []))
+    (cond (in-shape (s .m) (s .n) (length (s .matrix)) (length (s .vector)) (length (s .left)) (length (s .right)) (length (s .out))) None (Some (told BadLength)))
+    (Some (told BadSize))

@@ -9,3 +9,5 @@ pub use encoding::Encoding;
 pub use encoding::encode;
 pub use equation::evaluate;
 pub use fault::Fault;
+pub use fault::FaultDebug;
+pub use fault::FaultPartialEq;

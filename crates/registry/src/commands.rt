@@ -1,7 +1,7 @@
 // The commands that take arguments.
-use crate::show::check_fault;
-use crate::show::finding;
 use claim_check::check_text;
+use claim_check::finding;
+use claim_check::verdict;
 use prover::Finding;
 use std::error::AnyError;
 use std::fs;
@@ -28,31 +28,32 @@ pub enum Ending {
     Refused,
 }
 
-// Reads the claim in a file and prints whether it is true, or why it was refused.
+// Reads the claim in a file and prints the verdict; where the claim is false, also what fails, as a note.
 pub fn check(rt: &LibcRuntime, path: &str) -> Result<Ending, AnyError> {
+    let heap = rt.alloc();
     let text = match fs::read(rt, path) {
         Ok(text) => text,
-        Err(e) => return Err(format!(rt.alloc(), "{path}: {e}")?.into()),
+        Err(e) => return Err(format!(heap, "{path}: {e}")?.into()),
     };
-    match check_text(rt.alloc(), &text) {
-        Ok(Finding::AllHold) => rt.println("true")?,
+    let outcome = check_text(heap, &text);
+    rt.println(verdict(heap, outcome)?)?;
+    match outcome {
+        Ok(Finding::AllHold) => Ok(Ending::Done),
         Ok(found) => {
-            rt.println("false")?;
-            eprintln!(rt, "{path}: {}", finding(rt.alloc(), found)?)?;
+            eprintln!(rt, "{path}: {}", finding(heap, found)?)?;
+            Ok(Ending::Done)
         }
-        Err(fault) => {
-            println!(rt, "{}", check_fault(rt.alloc(), fault)?)?;
-            return Ok(Ending::Refused);
-        }
+        Err(_) => Ok(Ending::Refused),
     }
-    Ok(Ending::Done)
 }
 
+// Prints how the program is used.
 pub fn help(rt: &LibcRuntime) -> Result<Ending, AnyError> {
     rt.println(HELP)?;
     Ok(Ending::Done)
 }
 
+// Prints the program's version.
 pub fn version(rt: &LibcRuntime) -> Result<Ending, AnyError> {
     println!(rt, "registry {VERSION}")?;
     Ok(Ending::Done)

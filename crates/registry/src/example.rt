@@ -4,13 +4,11 @@ ghost use mathlib.Core.List.{map};
 ghost use Rattle.std.specs.Of.Vec.{vec-items};
 ghost use Rattle.std.specs.Vec.{made};
 use crate::commands::Ending;
-use crate::show::check_fault;
-use crate::show::finding;
 use claim_check::CheckFault;
+use claim_check::finding;
+use claim_check::verdict;
 use gf256::Gf256;
 use gf256::Gf256Field;
-use prover::Finding;
-use prover::FindingPartialEq;
 use prover::audit;
 use quadratic::Encoding;
 use quadratic::encode;
@@ -30,10 +28,10 @@ const SYSTEM: &[u8; 52] = b"\
     \xfd\xb5\x61\x94\xa4\x8a\xaf\xff\x2f\xb8\xba\x91\xbf\
     \x98\x9f\x97\xd8\x83\x2c\x57\xb6\xb9\x5c\xf8\xca\x7e";
 
-// The entries of an equation, and of a row of the claim's matrix.
-const TERMS: usize = 13;
+// The coefficients of an equation, and the entries of a row of the claim's matrix.
+const TERMS: usize = 1 + VARIABLES + PAIRS.len();
 
-const WIDTH: usize = 19;
+const WIDTH: usize = 3 * PAIRS.len() + 1;
 
 const DIGEST: &[u8; 4] = b"\xcd\x79\xb6\x3a";
 
@@ -80,7 +78,11 @@ fn encoded(heap: Global, signature: &[u8]) -> Result<Encoding<Gf256>, AnyError> 
 
 // The claim's sizes, its matrix row by row, and its vector.
 fn print_statement(rt: &LibcRuntime, claim: &Encoding<Gf256>) -> Result<(), AnyError> {
-    println!(rt, "claim: m = {} rows, n = {} gates", claim.m, claim.n)?;
+    println!(
+        rt,
+        "claim: m = {} rows, n = {} gates, counted from 0",
+        claim.m, claim.n
+    )?;
     rt.println("  matrix M, with a column for 1 and for each entry of wl, wr and wo:")?;
     for row in claim.matrix.chunks(WIDTH) {
         print_row(rt, "   ", row)?;
@@ -94,7 +96,7 @@ fn print_wires(rt: &LibcRuntime, claim: &Encoding<Gf256>) -> Result<(), AnyError
     print_row(rt, "        wo:", &claim.out)
 }
 
-// Checks the claim, and prints yes or no, and why.
+// Checks the claim, and prints the verdict, and why.
 fn print_verdict(rt: &LibcRuntime, claim: &Encoding<Gf256>) -> Result<(), AnyError> {
     let heap = rt.alloc();
     match audit(
@@ -106,11 +108,13 @@ fn print_verdict(rt: &LibcRuntime, claim: &Encoding<Gf256>) -> Result<(), AnyErr
         &claim.right,
         &claim.out,
     ) {
-        Ok(found) => {
-            let verdict = found == Finding::AllHold;
-            println!(rt, "check: {verdict}; {}", finding(heap, found)?)?;
-        }
-        Err(e) => println!(rt, "{}", check_fault(heap, CheckFault::Refused(e))?)?,
+        Ok(found) => println!(
+            rt,
+            "check: {}; {}",
+            verdict(heap, Ok(found))?,
+            finding(heap, found)?
+        )?,
+        Err(e) => println!(rt, "check: {}", verdict(heap, Err(CheckFault::Refused(e)))?)?,
     }
     Ok(())
 }

@@ -1,7 +1,6 @@
 // The registry's program: its built-in example, and the check of claim files.
 mod commands;
 mod example;
-mod show;
 
 use commands::Ending;
 use std::env;
@@ -22,16 +21,19 @@ fn main(rt: LibcRuntime) -> Result<(), AnyError> {
 fn run(rt: &LibcRuntime) -> Result<Ending, AnyError> {
     let mut args = env::args(rt)?;
     let _name = args.next();
-    let Some(command) = args.next() else {
+    let command = args.next();
+    let file = args.next();
+    if args.next().is_some() {
+        return Err("too many arguments; see registry --help".into());
+    }
+    let Some(command) = command else {
         return example::play(rt);
     };
-    match command.as_str() {
-        "check" => match args.next() {
-            Some(path) => commands::check(rt, path.as_str()),
-            None => Err("check: no file is named; see registry --help".into()),
-        },
-        "--help" => commands::help(rt),
-        "--version" => commands::version(rt),
+    match (command.as_str(), file) {
+        ("check", Some(path)) => commands::check(rt, path.as_str()),
+        ("check", None) => Err("check: no file is named; see registry --help".into()),
+        ("--help", None) => commands::help(rt),
+        ("--version", None) => commands::version(rt),
         _ => Err("no such command; see registry --help".into()),
     }
 }

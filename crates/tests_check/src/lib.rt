@@ -1,6 +1,10 @@
-// Examples of the direct check, at the edges of its sizes and of the words of a field.
+// Examples: the direct check at the edges of its sizes, words of a field, polynomials, systems, and texts.
 #[cfg(test)]
 mod edges;
+#[cfg(test)]
+mod polynomials;
+#[cfg(test)]
+mod systems;
 #[cfg(test)]
 mod texts;
 #[cfg(test)]

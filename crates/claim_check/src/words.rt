@@ -1,16 +1,28 @@
-// Findings and faults in words.
+// Verdicts, findings and faults in words.
 ghost use mathlib.Core.Path.{_≡_};
 ghost use Rattle.std.specs.Of.String.{string-bytes};
 ghost use Rattle.std.specs.Vec.{made};
 ghost use Rattle.claim_check.specs.Outcome.{told};
-ghost use Rattle.registry.specs.Words.{finding-text, refusal-text, read-text, fault-words, fault-text};
+ghost use Rattle.claim_check.specs.Words.{verdict-text, finding-text, refusal-text, read-text, fault-words, fault-text};
 ghost use mathlib.Core.List.{[], _∷_};
-use claim_check::CheckFault;
+use crate::CheckFault;
 use claim_file::ReadFault;
 use prover::Finding;
 use prover::Refusal;
 use std::alloc::AllocError;
 use std::alloc::Global;
+
+// The answer to whether a claim is true: `true`, `false`, or the fault for which that is not known.
+pub fn verdict(heap: Global, outcome: Result<Finding, CheckFault>) -> Result<String, AllocError>
+    ensures { λ r. ⌜ made r (λ s. string-bytes s ≡ verdict-text outcome) ⌝ }
+{
+    match outcome {
+        Ok(Finding::AllHold) => format!(heap, "true"),
+        Ok(Finding::RowFails(_)) => format!(heap, "false"),
+        Ok(Finding::GateFails(_)) => format!(heap, "false"),
+        Err(fault) => check_fault(heap, fault),
+    }
+}
 
 // What was found of a claim, rows and gates counted from 0.
 pub fn finding(heap: Global, found: Finding) -> Result<String, AllocError>
@@ -24,7 +36,7 @@ pub fn finding(heap: Global, found: Finding) -> Result<String, AllocError>
 }
 
 // A fault with its number, and its line where it has one.
-pub fn check_fault(heap: Global, fault: CheckFault) -> Result<String, AllocError>
+fn check_fault(heap: Global, fault: CheckFault) -> Result<String, AllocError>
     ensures { λ r. ⌜ made r (λ s. string-bytes s ≡ fault-text (told fault) (fault-words fault)) ⌝ }
 {
     match fault {

@@ -1,4 +1,4 @@
--- What the program writes of a finding and of a fault.
+-- What is written of a verdict, a finding and a fault.
 use mathlib.Core.List.{List, [], _∷_, _++_}
 use Prim.Native.Nat.{ℕ}
 use lib.Chars.{codes}
@@ -9,8 +9,11 @@ use Rattle.prover.specs.declared.refusal.Refusal.{Refusal}
 use Rattle.prover.specs.declared.refusal.Refusal.the-variants.{BadSize, BadLength}
 use Rattle.claim_file.specs.declared.ReadFault.{ReadFault}
 use Rattle.claim_file.specs.declared.ReadFault.the-variants.{UnexpectedWord, TooLarge, Unfinished, NoMemory}
+use Rattle.std.specs.declared.result.Result.{Result}
+use Rattle.std.specs.declared.result.Result.the-variants.{Ok, Err}
+use Rattle.claim_check.specs.Outcome.{told}
 use Rattle.claim_check.specs.declared.CheckFault.{CheckFault}
 use Rattle.claim_check.specs.declared.CheckFault.the-variants.{Unreadable, Refused}
 
 -- a finding, with the number of the first row or gate that fails
 abbrev pub finding-text : Finding → List ℕ
@@ -39,3 +42,10 @@ fault-words (Refused e) = refusal-text e
 abbrev pub fault-text : ℕ × List ℕ → List ℕ → List ℕ
 fault-text (number, []) words = codes "refused " ++ (decimal number ++ (codes ": " ++ words))
 fault-text (number, line ∷ more) words = codes "refused " ++ (decimal number ++ (codes ": line " ++ (decimal line ++ (codes ": " ++ words))))
+
+-- whether a claim is true, or the fault for which that is not known
+abbrev pub verdict-text : Result Finding CheckFault → List ℕ
+verdict-text (Ok AllHold) = codes "true"
+verdict-text (Ok (RowFails i)) = codes "false"
+verdict-text (Ok (GateFails i)) = codes "false"
+verdict-text (Err e) = fault-text (told e) (fault-words e)

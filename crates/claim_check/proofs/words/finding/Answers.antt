@@ -1,4 +1,4 @@
-use Rattle.registry.proofs.show.finding.Needs as need
+use Rattle.claim_check.proofs.words.finding.Needs as need
 
 pub returns-in-AllHold : need.returns-in-AllHold
 returns-in-AllHold c = rw (c .in-AllHold .is) (c .format .ensures .made)
