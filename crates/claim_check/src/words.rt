@@ -2,6 +2,7 @@
 ghost use mathlib.Core.Path.{_≡_};
 ghost use Rattle.std.specs.Of.String.{string-bytes};
 ghost use Rattle.std.specs.Vec.{made};
+ghost use Rattle.prover.specs.declared.relation.Finding.the-variants.{AllHold, RowFails, GateFails};
 ghost use Rattle.claim_check.specs.Outcome.{told};
 ghost use Rattle.claim_check.specs.Words.{verdict-text, finding-text, refusal-text, read-text, fault-words, fault-text};
 ghost use mathlib.Core.List.{[], _∷_};
@@ -29,10 +30,28 @@ pub fn finding(heap: Global, found: Finding) -> Result<String, AllocError>
     ensures { λ r. ⌜ made r (λ s. string-bytes s ≡ finding-text found) ⌝ }
 {
     match found {
-        Finding::AllHold => format!(heap, "every row and every gate holds"),
-        Finding::RowFails(i) => format!(heap, "row {i} is the first that fails"),
-        Finding::GateFails(i) => format!(heap, "every row holds; gate {i} is the first that fails"),
+        Finding::AllHold => all_hold(heap),
+        Finding::RowFails(i) => row_fails(heap, i),
+        Finding::GateFails(i) => gate_fails(heap, i),
     }
+}
+
+fn all_hold(heap: Global) -> Result<String, AllocError>
+    ensures { λ r. ⌜ made r (λ s. string-bytes s ≡ finding-text AllHold) ⌝ }
+{
+    format!(heap, "every row and every gate holds")
+}
+
+fn row_fails(heap: Global, i: usize) -> Result<String, AllocError>
+    ensures { λ r. ⌜ made r (λ s. string-bytes s ≡ finding-text (RowFails i)) ⌝ }
+{
+    format!(heap, "row {i} is the first that fails")
+}
+
+fn gate_fails(heap: Global, i: usize) -> Result<String, AllocError>
+    ensures { λ r. ⌜ made r (λ s. string-bytes s ≡ finding-text (GateFails i)) ⌝ }
+{
+    format!(heap, "every row holds; gate {i} is the first that fails")
 }
 
 // A fault with its number, and its line where it has one.

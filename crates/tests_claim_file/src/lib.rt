@@ -1,38 +1,36 @@
 // Tests of `claim_file`: each fault with its line, and what is read of texts that have none.
-use claim_file::ClaimFile;
-use claim_file::FieldName;
-use claim_file::ReadFault;
-use claim_file::read;
-use std::alloc::Global;
-
-// The fault of a text, if it has one.
-pub fn fault_of(heap: Global, text: &[u8]) -> Option<ReadFault> {
-    match read(heap, text) {
-        Ok(_) => None,
-        Err(fault) => Some(fault),
-    }
-}
-
-// Whether a claim has this heading and these lists.
-pub fn has(claim: &ClaimFile, field: FieldName, shape: (u32, u32), lists: [&[u32]; 5]) -> bool {
-    claim.field as u8 == field as u8
-        && (claim.m, claim.n) == shape
-        && claim.matrix.as_slice() == lists[0]
-        && claim.vector.as_slice() == lists[1]
-        && claim.left.as_slice() == lists[2]
-        && claim.right.as_slice() == lists[3]
-        && claim.out.as_slice() == lists[4]
-}
-
 #[cfg(test)]
 mod tests {
-    use super::*;
+    use claim_file::ClaimFile;
+    use claim_file::FieldName;
+    use claim_file::ReadFault;
     use claim_file::ReadFaultDebug;
     use claim_file::ReadFaultPartialEq;
+    use claim_file::read;
+    use std::alloc::Global;
     use std::test::*;
 
     const SAMPLE: &[u8] =
         b"# a comment\nfield gf256\nm 2   n 1\nmatrix 5 1 2 3\n       1 0 0 1   # second row\nvector 31 8\nleft 2\nright 3\nout 6\n";
+
+    // The fault of a text, if it has one.
+    fn fault_of(heap: Global, text: &[u8]) -> Option<ReadFault> {
+        match read(heap, text) {
+            Ok(_) => None,
+            Err(fault) => Some(fault),
+        }
+    }
+
+    // Whether a claim has this heading and these lists.
+    fn has(claim: &ClaimFile, field: FieldName, shape: (u32, u32), lists: [&[u32]; 5]) -> bool {
+        claim.field as u8 == field as u8
+            && (claim.m, claim.n) == shape
+            && claim.matrix.as_slice() == lists[0]
+            && claim.vector.as_slice() == lists[1]
+            && claim.left.as_slice() == lists[2]
+            && claim.right.as_slice() == lists[3]
+            && claim.out.as_slice() == lists[4]
+    }
 
     #[test]
     fn sample(rt: LibcRuntime) -> Result<(), Fail> {
@@ -42,7 +40,15 @@ mod tests {
             FieldName::Gf256,
             (2, 1),
             [&[5, 1, 2, 3, 1, 0, 0, 1], &[31, 8], &[2], &[3], &[6]],
-        ))
+        ))?;
+        check(
+            !has(
+                &claim,
+                FieldName::Gf256,
+                (2, 1),
+                [&[5, 1, 2, 3, 1, 0, 0, 1], &[31, 8], &[2], &[3], &[7]],
+            ),
+        )
     }
 
     #[test]
