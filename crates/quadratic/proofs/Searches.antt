@@ -9,7 +9,7 @@ use native.Mathlib.Omega.{arith}
 use lib.Dec.{eqb, ltb}
 use lib.ListN.{length, getD}
 use Rattle.std.proofs.shelf.Lists.{length-append, length-map, getD-map, getD-append-left, getD-append-right}
-use Rattle.std.proofs.shelf.Tests.{both-ways, eqb-true, eq-eqb, lt-ltb, le-ltb, ltb-true, not-false, and-parts, cases-bool}
+use Rattle.std.proofs.shelf.Tests.{both-ways, eqb-true, eq-eqb, ne-eqb, lt-ltb, le-ltb, ltb-true, not-false, and-parts, cases-bool}
 use Rattle.std.specs.Options.{isSome}
 use Rattle.std.specs.declared.option.Option.the-variants.{Some, None}
 use Rattle.quadratic.specs.Positions.{first-where, names, name-at, first, stray}
@@ -111,3 +111,19 @@ module _ (pairs : List (ℕ × ℕ)) where
         | yes l ↦ omega (arith, name-left p l, named-both v e p l .0)
         | no l ↦ omega (arith, name-right p (omega arith) h, named-both v e (p - length pairs) (omega arith) .1)
       ]
+
+  -- a variable that a pair names has a first position, and one that none names has not
+  pub first-met : (i p : ℕ) → p < 2 * length pairs → i ≡ name-at pairs p → eqb (first pairs i) (2 * length pairs) ≡ false
+  first-met i p h e =
+      let l = first-upto (eqb i) (names pairs) 0 p (omega (arith, length-names)) (eq-eqb i (name-at pairs p) e) in
+      ne-eqb (first pairs i) (2 * length pairs) (λ same. omega arith)
+
+  pub first-unmet : (i : ℕ) → ((g : ℕ) → g < length pairs → (eqb i (getD pairs g (0, 0) .0) ≡ false) × (eqb i (getD pairs g (0, 0) .1) ≡ false)) → first pairs i ≡ 2 * length pairs
+  first-unmet i none = first-none (eqb i) (names pairs) 0 (λ p h. at p (omega (arith, length-names))) ∙ length-names
+    where
+      at : (p : ℕ) → p < 2 * length pairs → eqb i (name-at pairs p) ≡ false
+      at p h =
+          elim (decLt p (length pairs)) [
+            | yes l ↦ ap (eqb i) (name-left p l) ∙ none p l .0
+            | no l ↦ ap (eqb i) (name-right p (omega arith) h) ∙ none (p - length pairs) (omega arith) .1
+          ]

@@ -37,10 +37,10 @@ refusal v pairs coefficients signature e =
     (Some (told CoefficientsLength)))
     (Some (told SignatureLength))
 
--- a fault is the one that fits; where memory was wanting, nothing more is known
+-- a fault is the one that fits; memory was wanting only where none fits
 abbrev pub Refuses : Fault → Option Told → Type 0
 Refuses SignatureLength said = said ≡ Some (told SignatureLength)
 Refuses CoefficientsLength said = said ≡ Some (told CoefficientsLength)
 Refuses (StrayPair pair) said = said ≡ Some (told (StrayPair pair))
 Refuses (UnusedVariable variable) said = said ≡ Some (told (UnusedVariable variable))
-Refuses NoMemory said = Unit {0}
+Refuses NoMemory said = said ≡ None

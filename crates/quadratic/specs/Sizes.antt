@@ -34,4 +34,3 @@ pub record Shaped (v n e rows cells : ℕ) : Type 0 where
   pub cells-are : cells ≡ (e + 2 * n) * (3 * n + 1)
   pub short : 1 + v + n < 2 ^ 64
   pub narrow : 3 * n + 1 < 2 ^ 64
-  pub few : e * (1 + v + n) < 2 ^ 64

@@ -34,7 +34,8 @@ pub struct Encoding<F> {
 }
 
 // The claim that the signature solves the system: true exactly if it does. The digest has an entry for each
-// equation, and the coefficients a row of 1 + v + n for each.
+// equation, and the coefficients a row of 1 + v + n for each. Want of memory, or a size that is too large, is
+// answered only where no other fault fits.
 pub fn encode<F: Field>(
     heap: Global,
     variables: usize,
@@ -47,12 +48,12 @@ pub fn encode<F: Field>(
 {
     let n = pairs.len();
     let e = digest.len();
-    let Some(Shape { rows: m, cells }) = shape_of(variables, n, e) else {
-        return Err(Fault::NoMemory);
-    };
     if let Some(fault) = refused(variables, pairs, coefficients.len(), signature.len(), e) {
         return Err(fault);
     }
+    let Some(Shape { rows: m, cells }) = shape_of(variables, n, e) else {
+        return Err(Fault::NoMemory);
+    };
     let matrix = fill_matrix(heap, variables, pairs, coefficients, e, cells)?;
     let vector = fill_vector(heap, digest, m)?;
     let left = fill_wire(heap, variables, pairs, signature, 0)?;

@@ -1,5 +1,6 @@
 ghost use mathlib.Core.Path.{_≡_};
 ghost use Prim.Native.Nat.{_*_, _^_, _<_};
+ghost use lib.Dec.{eqb};
 ghost use lib.ListN.{length};
 ghost use Rattle.quadratic.specs.Positions.{name-at, first, stray, unused};
 ghost use Rattle.quadratic.specs.Refusals.{found};
@@ -41,13 +42,24 @@ pub(crate) fn first_stray(variables: usize, pairs: &[(usize, usize)]) -> Option<
 
 // The first variable that is in no pair.
 pub(crate) fn first_unused(variables: usize, pairs: &[(usize, usize)]) -> Option<usize>
-    requires { ⌜ 2 * length (now pairs) < 2 ^ 64 ⌝ }
     ensures { λ r. ⌜ r ≡ found variables (unused variables (now (pairs .entry))) ⌝ }
 {
     for i in 0..variables {
-        if first_position(pairs, i) == 2 * pairs.len() {
+        if is_unused(pairs, i) {
             return Some(i);
         }
     }
     None
+}
+
+// Whether variable `i` is in no pair.
+fn is_unused(pairs: &[(usize, usize)], i: usize) -> bool
+    ensures { λ r. ⌜ r ≡ eqb (first (now (pairs .entry)) i) (2 * length (now (pairs .entry))) ⌝ }
+{
+    for g in 0..pairs.len() {
+        if pairs[g].0 == i || pairs[g].1 == i {
+            return false;
+        }
+    }
+    true
 }

@@ -1,4 +1,5 @@
 use mathlib.Core.Path.{_≡_, sym, ap, _∙_}
+use mathlib.Core.Bool.{true}
 use Prim.Native.Nat.{ℕ, _*_, _<_}
 use native.Mathlib.Nat.{zero-add}
 use native.Mathlib.Omega.{arith}
@@ -6,20 +7,19 @@ use lib.Dec.{eqb}
 use lib.ListN.{length}
 use Rattle.std.specs.Iters.{counting}
 use Rattle.std.proofs.shelf.Counted.{length-counting, getD-counting}
-use Rattle.std.proofs.shelf.Tests.{eq-eqb}
 use Rattle.quadratic.specs.Positions.{first}
 use Rattle.quadratic.proofs.Searches.{first-is, first-none, found-some, found-none}
 use Rattle.quadratic.proofs.position.first_unused.Needs as need
 
-pub returns-then-first-position-pairs : need.returns-then-first-position-pairs
-returns-then-first-position-pairs c =
+pub returns-then-is-unused : need.returns-then-is-unused
+returns-then-is-unused c =
     let pairs = c .args .pairs .now in
     let v = c .args .variables in
     let i = c .loop-i .i in
     let test = λ (k : ℕ). eqb (first pairs k) (2 * length pairs) in
     let at = λ (k : ℕ) (h : k < v). ap test (getD-counting 0 v k 0 h ∙ zero-add k) in
-    let here : first pairs i ≡ 2 * length pairs = sym (c .first-position .ensures) ∙ c .if-first-position-pairs .taken in
-    found-some v _ i (first-is test (counting 0 v) 0 i (omega (arith, length-counting 0 v)) (at i (omega arith) ∙ eq-eqb (first pairs i) (2 * length pairs) here)
+    let here : test i ≡ true = sym (c .if-is-unused .ensures tt) in
+    found-some v _ i (first-is test (counting 0 v) 0 i (omega (arith, length-counting 0 v)) (at i (omega arith) ∙ here)
     (λ k h. at k (omega arith) ∙ c .loop-i .inv k h)) (omega arith)
 
 pub returns : need.returns
