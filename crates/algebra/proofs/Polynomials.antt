@@ -33,10 +33,10 @@ module _ {K : Type 0} (f : Ops K) (laws : Laws f) where
   pub coeff-past : (p : List K) (i : ℕ) → length p ≤ i → coeff f p i ≡ nil
   coeff-past p i l = getD-past p i nil l
 
-  monomial-at : (v : K) (n : ℕ) → monomial f v n n ≡ v
+  pub monomial-at : (v : K) (n : ℕ) → monomial f v n n ≡ v
   monomial-at v n = rw (eq-eqb n n refl)
 
-  monomial-off : (v : K) (n i : ℕ) → (i ≡ n → ⊥) → monomial f v n i ≡ nil
+  pub monomial-off : (v : K) (n i : ℕ) → (i ≡ n → ⊥) → monomial f v n i ≡ nil
   monomial-off v n i h = rw (ne-eqb i n h)
 
   -- X^n - v, for n above 0, at 0, at n and elsewhere
@@ -57,7 +57,7 @@ module _ {K : Type 0} (f : Ops K) (laws : Laws f) where
         let e : k - k ≡ 0 = omega arith in
         ap (λ i. q k ⊠ binomial f n v i) e ∙ ap (λ x. q k ⊠ x) (binomial-low n v some) ∙ R.mul-neg f laws (q k) v ∙ ap neg (mul-comm (q k) v)
 
-    product-low : k < n → product f q (binomial f n v) k ≡ neg (v ⊠ q k)
+    pub product-low : k < n → product f q (binomial f n v) k ≡ neg (v ⊠ q k)
     product-low h =
         S.sum-last f laws k (λ i. q i ⊠ binomial f n v (k - i))
         ∙ ap₂ _⊞_
@@ -65,7 +65,7 @@ module _ {K : Type 0} (f : Ops K) (laws : Laws f) where
         last
         ∙ R.nil-add f laws (neg (v ⊠ q k))
 
-    product-high : n ≤ k → product f q (binomial f n v) k ≡ q (k - n) ⊞ neg (v ⊠ q k)
+    pub product-high : n ≤ k → product f q (binomial f n v) k ≡ q (k - n) ⊞ neg (v ⊠ q k)
     product-high h =
         let e : k - (k - n) ≡ n = omega arith in
         S.sum-last f laws k (λ i. q i ⊠ binomial f n v (k - i))

@@ -2,7 +2,9 @@
 use mathlib.Core.Path.{_≡_}
 use mathlib.Core.List.{List, [], _∷_, map}
 use Prim.Native.Nat.{ℕ, _-_}
-use Rattle.algebra.specs.Polynomials.{value, Divides, middle-list}
+use Rattle.algebra.specs.Polynomials.{coeff, value, Divides, middle-list}
+use Rattle.algebra.specs.Proofs.{Solves}
+use Rattle.algebra.specs.Challenges.{Lucky}
 use Rattle.algebra.specs.Relation.{Claim, Holds}
 use Rattle.mersenne31.specs.Mersenne31.{Remainder, modulo, p, rem}
 use Rattle.gf256.specs.Gf256.{bytes, low}
@@ -36,3 +38,6 @@ pub record Worked : Type 0 where
   pub middle-of-pairs : middle-list modulo 1 (elements (6 ∷ 42 ∷ [])) (elements (1 ∷ 1 ∷ [])) ≡ elements (6 ∷ 48 ∷ 42 ∷ [])
   pub claim-31 : Holds modulo (one-gate 31)
   pub claim-32 : Holds modulo (one-gate 32) → ⊥
+  pub twist-of-pairs : Solves modulo 1 (coeff modulo (elements (1 ∷ 0 ∷ (p - 1) ∷ []))) (coeff modulo (elements (6 ∷ 42 ∷ []))) (coeff modulo (elements (1 ∷ 1 ∷ [])))
+  pub lucky-5 : Lucky modulo 2 (coeff modulo (elements (5 ∷ (p - 1) ∷ []))) (rem 5)
+  pub only-5 : (x : Remainder) → Lucky modulo 2 (coeff modulo (elements (5 ∷ (p - 1) ∷ []))) x → x ≡ rem 5

@@ -6,6 +6,7 @@ use Rattle.field.proofs.Numbers.{below-path}
 use Rattle.algebra.specs.Relation.{Holds, Zero-below, row-error, gate-error}
 use Rattle.mersenne31.specs.Mersenne31.{Remainder, modulo, p}
 use Rattle.specimens.specs.Examples.{one-gate}
+use Rattle.specimens.proofs.Challenges.{twist-of-pairs, lucky-5, only-5}
 use Rattle.specimens.proofs.Division.{two-rows}
 use Rattle.specimens.proofs.worked_examples.Needs as need
 
@@ -41,4 +42,7 @@ returns c =
       middle-of-pairs = by-numbers _ _ refl;
       claim-31 = record { rows-hold = row; gates-hold = gate };
       claim-32 = one-off;
+      twist-of-pairs = twist-of-pairs;
+      lucky-5 = lucky-5;
+      only-5 = only-5;
     }
