@@ -6,7 +6,7 @@ use Rattle.std.specs.Written.{decimal}
 use Rattle.prover.specs.declared.relation.Finding.{Finding}
 use Rattle.prover.specs.declared.relation.Finding.the-variants.{AllHold, RowFails, GateFails}
 use Rattle.prover.specs.declared.refusal.Refusal.{Refusal}
-use Rattle.prover.specs.declared.refusal.Refusal.the-variants.{BadSize, BadLength}
+use Rattle.prover.specs.declared.refusal.Refusal.the-variants.{BadSize, BadLength, ZeroChallenge, ShortBuffer}
 use Rattle.claim_file.specs.declared.ReadFault.{ReadFault}
 use Rattle.claim_file.specs.declared.ReadFault.the-variants.{UnexpectedWord, TooLarge, Unfinished, NoMemory}
 use Rattle.std.specs.declared.result.Result.{Result}
@@ -25,6 +25,8 @@ finding-text (GateFails i) = codes "every row holds; gate " ++ decimal i ++ code
 abbrev pub refusal-text : Refusal → List ℕ
 refusal-text BadSize = codes "m is outside 1 to 64, n is outside 1 to 85, or 6n is above the field's span"
 refusal-text BadLength = codes "the matrix, the vector or a wire has the wrong length"
+refusal-text ZeroChallenge = codes "a challenge is zero"
+refusal-text ShortBuffer = codes "the buffer is too short"
 
 -- a fault of a text
 abbrev pub read-text : ReadFault → List ℕ

@@ -88,6 +88,8 @@ fn refusal(e: Refusal) -> &'static str
         Refusal::BadSize =>
             "m is outside 1 to 64, n is outside 1 to 85, or 6n is above the field's span",
         Refusal::BadLength => "the matrix, the vector or a wire has the wrong length",
+        Refusal::ZeroChallenge => "a challenge is zero",
+        Refusal::ShortBuffer => "the buffer is too short",
     }
 }
 

@@ -1,2 +1,4 @@
 pub mod Cells
 pub mod Lengths
+pub mod Twist
+pub mod Steps

@@ -8,6 +8,7 @@ ghost use Rattle.std.specs.shelf.Lists.{All};
 ghost use Rattle.algebra.specs.Polynomials.{coeff};
 ghost use Rattle.polynomial.specs.Cells.{Divided, carried};
 ghost use Rattle.polynomial.specs.Lengths.{Rows-fit};
+ghost use Rattle.polynomial.specs.Steps.{Stepped};
 use crate::WrongLength;
 use crate::value::coefficient;
 use field::Field;
@@ -32,6 +33,27 @@ pub fn divide<F: Field>(
     }
     fill_quotient(p, remainder.len(), alpha, quotient);
     fill_remainder(p, alpha, quotient, remainder);
+    Ok(())
+}
+
+// Writes the quotient alone, of the division by `X^n - alpha`. Writes nothing where the lengths do not fit.
+pub fn write_quotient<F: Field>(
+    p: &[F],
+    n: usize,
+    alpha: F,
+    quotient: &mut [F],
+) -> Result<(), WrongLength>
+    ensures { λ r. ⌜ elim r [
+      | Ok _ ↦ Rows-fit (length (now (p .entry))) (length (now (quotient .entry))) n
+          × Stepped (F·Field .ops) (F·Field .mean) (F·Field .reduced) (now (p .entry)) (F·Field .mean alpha) n (now (quotient .exit))
+      | Err _ ↦ (Rows-fit (length (now (p .entry))) (length (now (quotient .entry))) n → ⊥)
+          × (now (quotient .exit) ≡ now (quotient .entry))
+    ] ⌝ }
+{
+    if !rows_fit(p.len(), quotient.len(), n) {
+        return Err(WrongLength);
+    }
+    fill_quotient(p, n, alpha, quotient);
     Ok(())
 }
 
@@ -68,8 +90,8 @@ fn fill_remainder<F: Field>(p: &[F], alpha: F, quotient: &[F], remainder: &mut [
     }
 }
 
-// The dividend's coefficient at k and `alpha` times the quotient's.
-fn carry<F: Field>(p: &[F], alpha: F, quotient: &[F], k: usize) -> F
+// The dividend's coefficient at k and `alpha` times the quotient's: for k below n, entry k of the remainder.
+pub fn carry<F: Field>(p: &[F], alpha: F, quotient: &[F], k: usize) -> F
     ensures means { λ r. ⌜ F·Field .mean r ≡ carried (F·Field .ops) (map (F·Field .mean) (now (p .entry))) (F·Field .mean alpha) (map (F·Field .mean) (now (quotient .entry))) k ⌝ }
     ensures tidy { λ r. ⌜ F·Field .reduced r ⌝ }
 {

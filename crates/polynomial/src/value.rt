@@ -16,7 +16,7 @@ pub fn value_at<F: Field>(p: &[F], x: F) -> F
 }
 
 // The coefficient of `X^i` in `p`, zero past its end.
-pub(crate) fn coefficient<F: Field>(p: &[F], i: usize) -> F
+pub fn coefficient<F: Field>(p: &[F], i: usize) -> F
     ensures { λ r. ⌜ F·Field .mean r ≡ coeff (F·Field .ops) (map (F·Field .mean) (now (p .entry))) i ⌝ }
 {
     if i < p.len() { p[i] } else { F::zero() }

@@ -1,6 +1,8 @@
+mod proof;
 mod refusal;
 mod relation;
 
+pub use proof::prove;
 pub use refusal::Refusal;
 pub use refusal::RefusalDebug;
 pub use refusal::RefusalPartialEq;

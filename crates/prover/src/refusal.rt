@@ -4,13 +4,17 @@ ghost use Rattle.prover.specs.Refusals.{told};
 ghost use Rattle.prover.specs.Claims.{in-range as sizes-fit, in-shape as lengths-fit};
 use field::Field;
 
-// Why a claim is not looked at.
+// Why a claim is not looked at, or not proved.
 #[derive(Clone, Copy, PartialEq, Eq, Debug)]
 pub enum Refusal {
     // 12: m is outside 1 to 64, n outside 1 to 85, or 6n above the field's span.
     BadSize,
     // 13: the matrix, the vector or a wire has the wrong length.
     BadLength,
+    // 16: the buffer is shorter than m·N + 8n cells, with N = 3n + 1.
+    ShortBuffer,
+    // 22: a challenge is zero.
+    ZeroChallenge,
 }
 
 impl Refusal {
@@ -21,6 +25,8 @@ impl Refusal {
         match self {
             Refusal::BadSize => 12,
             Refusal::BadLength => 13,
+            Refusal::ShortBuffer => 16,
+            Refusal::ZeroChallenge => 22,
         }
     }
 }

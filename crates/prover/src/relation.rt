@@ -138,7 +138,7 @@ fn row_entry<F: Field>(
 }
 
 // Entry `j` of the vector `(1, wl, wr, wo)`.
-fn wire<F: Field>(n: usize, left: &[F], right: &[F], out: &[F], j: usize) -> F
+pub(crate) fn wire<F: Field>(n: usize, left: &[F], right: &[F], out: &[F], j: usize) -> F
     requires { ⌜ Wires-full n (length (now left)) (length (now right)) (length (now out)) ⌝ ∗ ⌜ j < 3 * n + 1 ⌝ }
     ensures { λ r. ⌜ F·Field .mean r ≡ wires (F·Field .ops) (claimed (F·Field .mean) 0 n [] [] (now (left .entry)) (now (right .entry)) (now (out .entry))) j ⌝ }
 {
