@@ -10,6 +10,7 @@ use claim_check::verdict;
 use gf256::Gf256;
 use gf256::Gf256Field;
 use prover::audit;
+use prover::prove;
 use quadratic::Encoding;
 use quadratic::encode;
 use std::alloc::AllocError;
@@ -33,6 +34,18 @@ const TERMS: usize = 1 + VARIABLES + PAIRS.len();
 
 const WIDTH: usize = 3 * PAIRS.len() + 1;
 
+// Where the matrix ends among the cells of a proof, where h1 ends, and all cells.
+const AREA: usize = (DIGEST.len() + 2 * PAIRS.len()) * WIDTH;
+
+const TWIST: usize = AREA + 6 * PAIRS.len() + 1;
+
+const CELLS: usize = AREA + 8 * PAIRS.len();
+
+// The challenges of the example; the free coefficients are zero.
+const ALPHA: Gf256 = Gf256(0x1d);
+
+const BETA: Gf256 = Gf256(0x35);
+
 const DIGEST: &[u8; 4] = b"\xcd\x79\xb6\x3a";
 
 const SIGNATURE: &[u8; 6] = b"\x55\x61\x27\x6c\x93\xb4";
@@ -40,8 +53,8 @@ const SIGNATURE: &[u8; 6] = b"\x55\x61\x27\x6c\x93\xb4";
 // The same with its third byte forged.
 const FORGED: &[u8; 6] = b"\x55\x61\x28\x6c\x93\xb4";
 
-// Prints the system and the digest, then the signature as a claim and what the check finds of it, and then the
-// same for the forged signature.
+// Prints the system and the digest, then the signature as a claim, what the check finds of it, and its proof, and
+// then the forged signature's claim and what the check finds of that.
 pub fn play(rt: &LibcRuntime) -> Result<Ending, AnyError> {
     rt.println(
         "A multivariate quadratic signature over the field of 256 elements, in hexadecimal",
@@ -56,6 +69,7 @@ pub fn play(rt: &LibcRuntime) -> Result<Ending, AnyError> {
     print_statement(rt, &claim)?;
     print_wires(rt, &claim)?;
     print_verdict(rt, &claim)?;
+    print_proof(rt, &claim)?;
     rt.println("")?;
     print_bytes(rt, "the same with its third byte forged:", FORGED)?;
     let forged = encoded(rt.alloc(), FORGED)?;
@@ -94,6 +108,45 @@ fn print_wires(rt: &LibcRuntime, claim: &Encoding<Gf256>) -> Result<(), AnyError
     print_row(rt, "  wires wl:", &claim.left)?;
     print_row(rt, "        wr:", &claim.right)?;
     print_row(rt, "        wo:", &claim.out)
+}
+
+// Proves the claim at the example's challenges, and prints the four polynomials with their lengths.
+fn print_proof(rt: &LibcRuntime, claim: &Encoding<Gf256>) -> Result<(), AnyError> {
+    let mut cells = [Gf256(0); CELLS];
+    let free = Gf256(0);
+    if let Err(e) = prove(
+        claim.m,
+        claim.n,
+        &claim.matrix,
+        &claim.left,
+        &claim.right,
+        &claim.out,
+        ALPHA,
+        BETA,
+        free,
+        free,
+        &mut cells,
+    ) {
+        return Err(format!(rt.alloc(), "the example is refused with {}", e.number())?.into());
+    }
+    println!(
+        rt,
+        "proof: alpha = {:02x}, beta = {:02x}, and both free coefficients are 00",
+        ALPHA.0, BETA.0
+    )?;
+    print_part(rt, "r", &cells[0..WIDTH])?;
+    print_part(rt, "q", &cells[WIDTH..AREA])?;
+    print_part(rt, "h1", &cells[AREA..TWIST])?;
+    print_part(rt, "h2", &cells[TWIST..CELLS])
+}
+
+// A polynomial of a proof with its length, in rows as wide as the matrix.
+fn print_part(rt: &LibcRuntime, name: &str, part: &[Gf256]) -> Result<(), AnyError> {
+    println!(rt, "  {name}, {} coefficients:", part.len())?;
+    for row in part.chunks(WIDTH) {
+        print_row(rt, "   ", row)?;
+    }
+    Ok(())
 }
 
 // Checks the claim, and prints the verdict, and why.
