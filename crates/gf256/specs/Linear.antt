@@ -11,12 +11,12 @@ swap a b c d =
     ∙ sym (xor_assoc a c (bit_xor b d))
 
 -- a bit times a number
-pub bit_xor : (u v n : ℕ) → u < 2 → v < 2 → bit_xor u v * n ≡ bit_xor (u * n) (v * n)
-bit_xor zero v n hu hv = ap (λ x. x * n) (xor_zero_l v) ∙ sym (ap (λ x. bit_xor x (v * n)) (zero-mul n) ∙ xor_zero_l (v * n))
-bit_xor (suc zero) zero n hu hv = sym (ap (bit_xor (1 * n)) (zero-mul n) ∙ xor_zero_r (1 * n))
-bit_xor (suc zero) (suc zero) n hu hv = zero-mul n ∙ sym (xor_self (1 * n))
-bit_xor (suc zero) (suc (suc v)) n hu hv = absurd (omega arith)
-bit_xor (suc (suc u)) v n hu hv = absurd (omega arith)
+pub xor_times : (u v n : ℕ) → u < 2 → v < 2 → bit_xor u v * n ≡ bit_xor (u * n) (v * n)
+xor_times zero v n hu hv = ap (λ x. x * n) (xor_zero_l v) ∙ sym (ap (λ x. bit_xor x (v * n)) (zero-mul n) ∙ xor_zero_l (v * n))
+xor_times (suc zero) zero n hu hv = sym (ap (bit_xor (1 * n)) (zero-mul n) ∙ xor_zero_r (1 * n))
+xor_times (suc zero) (suc zero) n hu hv = zero-mul n ∙ sym (xor_self (1 * n))
+xor_times (suc zero) (suc (suc v)) n hu hv = absurd (omega arith)
+xor_times (suc (suc u)) v n hu hv = absurd (omega arith)
 
 pub bit_dist : (u m n : ℕ) → u < 2 → u * bit_xor m n ≡ bit_xor (u * m) (u * n)
 bit_dist zero m n h = zero-mul (bit_xor m n) ∙ sym (ap₂ bit_xor (zero-mul m) (zero-mul n) ∙ xor_zero_l 0)

@@ -6,7 +6,7 @@ use Rattle.std.proofs.lemmas.Nat.{xor_lt, xor_shr, xor_mod, xor_block}
 use Rattle.std.proofs.Math.Pow.{pow-lt}
 use Rattle.field.proofs.Sweep.{sweep, swept}
 use Rattle.gf256.specs.Gf256.{shifted, product, times}
-use Rattle.gf256.specs.Linear.{Linear, swap, bit_xor, bit_dist, agree}
+use Rattle.gf256.specs.Linear.{Linear, swap, xor_times, bit_dist, agree}
 
 -- a test at each byte
 pub each : (f : ℕ → Bool) → T (sweep f 8 0) → (a : ℕ) → a < 256 → T (f a)
@@ -24,7 +24,7 @@ doubled a b = sym (ap₂ bit_xor (shape a) (shape b) ∙ xor_block 1 a b 0 0 (li
 shifted_xor : Linear shifted
 shifted_xor a b ha hb =
     ap₂ bit_xor (ap (λ x. x * 2) (xor_mod a b 7) ∙ doubled (a % 128) (b % 128))
-    (ap (λ x. x * 0x1b) (xor_shr a b 7) ∙ bit_xor (a / 128) (b / 128) 0x1b (omega arith) (omega arith))
+    (ap (λ x. x * 0x1b) (xor_shr a b 7) ∙ xor_times (a / 128) (b / 128) 0x1b (omega arith) (omega arith))
     ∙ swap (a % 128 * 2) (b % 128 * 2) (a / 128 * 0x1b) (b / 128 * 0x1b)
 
 pub bit_lt : (u a : ℕ) → u < 2 → a < 256 → u * a < 256
@@ -47,7 +47,7 @@ left (suc k) b a c ha hc =
 right_any : (k a b c : ℕ) → product k a (bit_xor b c) ≡ bit_xor (product k a b) (product k a c)
 right_any zero a b c = refl
 right_any (suc k) a b c =
-    ap₂ bit_xor (ap (λ x. x * a) (xor_mod b c 1) ∙ bit_xor (b % 2) (c % 2) a (mod-lt b (lit< tt)) (mod-lt c (lit< tt)))
+    ap₂ bit_xor (ap (λ x. x * a) (xor_mod b c 1) ∙ xor_times (b % 2) (c % 2) a (mod-lt b (lit< tt)) (mod-lt c (lit< tt)))
     (ap (product k (shifted a)) (xor_shr b c 1) ∙ right_any k (shifted a) (b / 2) (c / 2))
     ∙ swap (b % 2 * a) (c % 2 * a) (product k (shifted a) (b / 2)) (product k (shifted a) (c / 2))
 

@@ -25,8 +25,8 @@ laws = record {
   add_neg = λ a. below_path p (let h = a.1 in omega arith);
   mul_assoc = λ a b c. below_path p (mod_mul_mod (a.0 * b.0) c.0 p ∙ ap (λ x. x % p) (mul_assoc a.0 b.0 c.0) ∙ sym (mul_mod_mod a.0 (b.0 * c.0) p));
   mul_comm = λ a b. ap rem (mul_comm a.0 b.0);
-  mul-one = λ a. below_path p (ap (λ x. x % p) (mul-one a.0) ∙ mod-eq_of_lt a.1);
-  mul-add = λ a b c. below_path p (mul_mod_mod a.0 (b.0 + c.0) p ∙ ap (λ x. x % p) (mul-add a.0 b.0 c.0) ∙ add-mod (a.0 * b.0) (a.0 * c.0) p);
+  mul_one = λ a. below_path p (ap (λ x. x % p) (mul-one a.0) ∙ mod-eq_of_lt a.1);
+  mul_add = λ a b c. below_path p (mul_mod_mod a.0 (b.0 + c.0) p ∙ ap (λ x. x % p) (mul-add a.0 b.0 c.0) ∙ add-mod (a.0 * b.0) (a.0 * c.0) p);
   one_nil = apart (rem 1) (rem 0) (omega arith);
   mul_inv = λ a h. below_path p (mul_mod_mod a.0 (invert a.0 a.0) p ∙ inverted a.0 a.0 (positive a h) a.1 (le_refl a.0));
   same_yes = same_yes p;

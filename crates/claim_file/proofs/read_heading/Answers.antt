@@ -3,31 +3,31 @@ use Rattle.claim_file.proofs.Chains.{at_err}
 use Rattle.claim_file.proofs.Headings.{break_1, break_2, break_3, break_4, break_5, headed}
 use Rattle.claim_file.proofs.read_heading.Goals as goal
 
-pub returns-in-err-keyword : goal.returns-in-err-keyword
-returns-in-err-keyword c =
-    let p = err_from_is_err_and c.from-residual.result c.from-residual.ensures.1 in
-    at_err p.1 p.2 (break_1 c.in-err-keyword.ensures)
+pub returns-in_err-keyword : goal.returns-in_err-keyword
+returns-in_err-keyword c =
+    let p = err_from_is_err_and c.from_residual.result c.from_residual.ensures.1 in
+    at_err p.1 p.2 (break_1 c.in_err-keyword.ensures)
 
-pub returns-in-err-field : goal.returns-in-err-field
-returns-in-err-field c =
-    let p = err_from_is_err_and c.from-residual-in-err-field.result c.from-residual-in-err-field.ensures.1 in
-    at_err p.1 p.2 (break_2 c.in-ok-keyword.ensures c.in-err-field.ensures)
+pub returns-in_err-field : goal.returns-in_err-field
+returns-in_err-field c =
+    let p = err_from_is_err_and c.from_residual-in_err-field.result c.from_residual-in_err-field.ensures.1 in
+    at_err p.1 p.2 (break_2 c.in_ok-keyword.ensures c.in_err-field.ensures)
 
-pub returns-in-err-m : goal.returns-in-err-m
-returns-in-err-m c =
-    let p = err_from_is_err_and c.from-residual-in-err-m.result c.from-residual-in-err-m.ensures.1 in
-    at_err p.1 p.2 (break_3 c.in-ok-keyword.ensures c.in-ok-field.ensures c.in-err-m.ensures)
+pub returns-in_err-m : goal.returns-in_err-m
+returns-in_err-m c =
+    let p = err_from_is_err_and c.from_residual-in_err-m.result c.from_residual-in_err-m.ensures.1 in
+    at_err p.1 p.2 (break_3 c.in_ok-keyword.ensures c.in_ok-field.ensures c.in_err-m.ensures)
 
-pub returns-in-err-n : goal.returns-in-err-n
-returns-in-err-n c =
-    let p = err_from_is_err_and c.from-residual-in-err-n.result c.from-residual-in-err-n.ensures.1 in
-    at_err p.1 p.2 (break_4 c.in-ok-keyword.ensures c.in-ok-field.ensures c.in-ok-m.ensures c.in-err-n.ensures)
+pub returns-in_err-n : goal.returns-in_err-n
+returns-in_err-n c =
+    let p = err_from_is_err_and c.from_residual-in_err-n.result c.from_residual-in_err-n.ensures.1 in
+    at_err p.1 p.2 (break_4 c.in_ok-keyword.ensures c.in_ok-field.ensures c.in_ok-m.ensures c.in_err-n.ensures)
 
-pub returns-in-err-keyword-2 : goal.returns-in-err-keyword-2
-returns-in-err-keyword-2 c =
-    let p = err_from_is_err_and c.from-residual-in-err-keyword-2.result c.from-residual-in-err-keyword-2.ensures.1 in
-    at_err p.1 p.2 (break_5 c.in-ok-keyword.ensures c.in-ok-field.ensures c.in-ok-m.ensures c.in-ok-n.ensures c.in-err-keyword-2.ensures)
+pub returns-in_err-keyword-2 : goal.returns-in_err-keyword-2
+returns-in_err-keyword-2 c =
+    let p = err_from_is_err_and c.from_residual-in_err-keyword-2.result c.from_residual-in_err-keyword-2.ensures.1 in
+    at_err p.1 p.2 (break_5 c.in_ok-keyword.ensures c.in_ok-field.ensures c.in_ok-m.ensures c.in_ok-n.ensures c.in_err-keyword-2.ensures)
 
 pub returns : goal.returns
 returns c =
-    headed c.in-ok-keyword.ensures c.in-ok-field.ensures c.in-ok-m.ensures c.in-ok-n.ensures c.in-ok-keyword-2.ensures
+    headed c.in_ok-keyword.ensures c.in_ok-field.ensures c.in_ok-m.ensures c.in_ok-n.ensures c.in_ok-keyword-2.ensures

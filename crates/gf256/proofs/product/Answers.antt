@@ -4,12 +4,12 @@ use Rattle.gf256.specs.Gf256.{product, times}
 use Rattle.gf256.specs.Times.{bit_lt}
 use Rattle.gf256.proofs.product.Goals as goal
 
-pub overflow-mul-sum : goal.overflow-mul-sum
-overflow-mul-sum c = record { fits = bit_lt (c.loop-i.b % 2) c.loop-i.a (mod-lt c.loop-i.b (lit< tt)) c.loop-i.invariant.0 }
+pub overflow_mul-sum : goal.overflow_mul-sum
+overflow_mul-sum c = record { fits = bit_lt (c.loop-i.b % 2) c.loop-i.a (mod-lt c.loop-i.b (lit< tt)) c.loop-i.invariant.0 }
 
 pub loop-i-preserved : goal.loop-i-preserved
 loop-i-preserved c =
-    let i = c.loop-i.-i in
+    let i = c.loop-i._i in
     let a = c.loop-i.a in
     let b = c.loop-i.b in
     let sum = bit_xor c.loop-i.sum (b % 2 * a) in

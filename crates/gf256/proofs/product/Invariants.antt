@@ -7,5 +7,5 @@ use Rattle.gf256.proofs.product.Given as goal
 abbrev pub invariant-loop-i : goal.invariant-loop-i
 invariant-loop-i l =
     (l.a < 256)
-    × (bit_xor l.sum (product (8 - l.-i) l.a l.b) ≡ times l.initial.a l.initial.b)
-    × (8 ≤ l.-i → l.sum ≡ times l.initial.a l.initial.b)
+    × (bit_xor l.sum (product (8 - l._i) l.a l.b) ≡ times l.initial.a l.initial.b)
+    × (8 ≤ l._i → l.sum ≡ times l.initial.a l.initial.b)

@@ -5,7 +5,7 @@ use Rattle.polynomial.proofs.middle.fill_middle.Goals as goal
 pub loop-k-preserved : goal.loop-k-preserved
 loop-k-preserved g c =
     let within : c.loop-k.k < length c.loop-k.out = omega arith in
-    filled_more c.middle-entry.result within c.loop-k.invariant c.middle-entry.ensures.means c.middle-entry.ensures.tidy
+    filled_more c.middle_entry.result within c.loop-k.invariant c.middle_entry.ensures.means c.middle_entry.ensures.tidy
 
 pub returns : goal.returns
 returns g c =

@@ -13,4 +13,4 @@ returns-in-Some c =
 pub returns-in-None : goal.returns-in-None
 returns-in-None c =
     let t = c.in-None.ensures in
-    record { tells = none_due _ _ t.1 ∙ ap (λ n. Err (told (Unfinished n))) (sym (c.last-line.ensures ∙ ap (last_line 1) t.0)); kept = t.0 }
+    record { tells = none_due _ _ t.1 ∙ ap (λ n. Err (told (Unfinished n))) (sym (c.last_line.ensures ∙ ap (last_line 1) t.0)); kept = t.0 }

@@ -5,21 +5,21 @@ use Rattle.claim_file.specs.Grammar.{keyword}
 use Rattle.claim_file.proofs.Chains.{broken, at_err}
 use Rattle.claim_file.proofs.words.Words.keyword.Goals as goal
 
-pub returns-in-err-word : goal.returns-in-err-word
+pub returns-in_err-word : goal.returns-in_err-word
 unfolding keyword
-returns-in-err-word c =
-    let p = err_from_is_err_and c.from-residual.result c.from-residual.ensures.1 in
-    let t = c.in-err-word.ensures in
+returns-in_err-word c =
+    let p = err_from_is_err_and c.from_residual.result c.from_residual.ensures.1 in
+    let t = c.in_err-word.ensures in
     at_err p.1 p.2 (record { tells = broken _ _ _ t.tells; kept = t.kept })
 
-pub returns-then-is-key : goal.returns-then-is-key
+pub returns-then-is_key : goal.returns-then-is_key
 unfolding keyword
-returns-then-is-key c =
-    let t = c.in-ok-word.ensures in
-    record { tells = rw t.tells (cond-true _ _ _ (sym c.if-is-key.ensures)); kept = t.kept }
+returns-then-is_key c =
+    let t = c.in_ok-word.ensures in
+    record { tells = rw t.tells (cond-true _ _ _ (sym c.if-is_key.ensures)); kept = t.kept }
 
-pub returns-else-is-key : goal.returns-else-is-key
+pub returns-else-is_key : goal.returns-else-is_key
 unfolding keyword
-returns-else-is-key c =
-    let t = c.in-ok-word.ensures in
-    at_err refl c.unexpected.ensures (record { tells = rw t.tells (cond-false _ _ _ (sym c.if-is-key.ensures)); kept = t.kept })
+returns-else-is_key c =
+    let t = c.in_ok-word.ensures in
+    at_err refl c.unexpected.ensures (record { tells = rw t.tells (cond-false _ _ _ (sym c.if-is_key.ensures)); kept = t.kept })

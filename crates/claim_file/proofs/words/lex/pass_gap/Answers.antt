@@ -5,9 +5,9 @@ use Rattle.claim_file.proofs.words.lex.pass_gap.Goals as goal
 
 pub loop-pos-preserved : goal.loop-pos-preserved
 loop-pos-preserved c =
-    let few : c.line-after-line.result ≤ c.loop-pos.pos + 1 + 1 = grind (arith, nat_tests) in
-    let step = gap_more c.args.text.now c.loop-pos.comment c.loop-pos.line c.loop-pos.pos (omega arith) (sym c.if-in-gap.ensures) in
-    (few, rw (c.line-after-line.ensures, c.in-comment-comment.ensures) (step ∙ c.loop-pos.invariant.1))
+    let few : c.line_after-line.result ≤ c.loop-pos.pos + 1 + 1 = grind (arith, nat_tests) in
+    let step = gap_more c.args.text.now c.loop-pos.comment c.loop-pos.line c.loop-pos.pos (omega arith) (sym c.if-in_gap.ensures) in
+    (few, rw (c.line_after-line.ensures, c.in_comment-comment.ensures) (step ∙ c.loop-pos.invariant.1))
 
 pub returns-after-loop-pos : goal.returns-after-loop-pos
 returns-after-loop-pos c =
