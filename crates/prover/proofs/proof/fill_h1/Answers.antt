@@ -15,11 +15,11 @@ loop-k-preserved g c =
     let rows = c.args.rows in
     let xs = c.loop-k.buffer in
     let was = c.args.buffer.now in
-    let y = c.rows-entry-y.result in
+    let y = c.rows_entry-y.result in
     let within : rows + k < length xs = omega arith in
     let t = λ (l : _) (i : ℕ). middle f.ops (3 * c.args.n) (coeff f.ops (map f.mean l)) (wires f.ops s) i in
     let front : take w xs ≡ take w was = same_take w rows xs was (omega arith) c.loop-k.invariant.1.before in (
-      written_more f.ops f.mean (t (take w was)) xs rows k y within c.loop-k.invariant.0 (c.rows-entry-y.ensures ∙ ap (λ l. t l k) front),
+      written_more f.ops f.mean (t (take w was)) xs rows k y within c.loop-k.invariant.0 (c.rows_entry-y.ensures ∙ ap (λ l. t l k) front),
       record {
         before = take-set-le rows xs (rows + k) y (omega arith) ∙ c.loop-k.invariant.1.before;
         beyond = drop-set-lt (rows + (6 * c.args.n + 1)) xs (rows + k) y (omega arith) ∙ c.loop-k.invariant.1.beyond;

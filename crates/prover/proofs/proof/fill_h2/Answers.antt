@@ -12,8 +12,8 @@ loop-k-preserved g c =
     let k = c.loop-k.k in
     let xs = c.loop-k.cells in
     let within : 0 + k < length xs = omega arith in
-    λ i l. ap (λ j. coeff f.ops (map f.mean (set xs j c.gates-entry.result)) (0 + i)) (sym (zero-add k))
-    ∙ written_more f.ops f.mean (middle f.ops (c.args.n - 1) a (coeff f.ops (map f.mean c.args.right.now))) xs 0 k c.gates-entry.result within c.loop-k.invariant c.gates-entry.ensures i l
+    λ i l. ap (λ j. coeff f.ops (map f.mean (set xs j c.gates_entry.result)) (0 + i)) (sym (zero-add k))
+    ∙ written_more f.ops f.mean (middle f.ops (c.args.n - 1) a (coeff f.ops (map f.mean c.args.right.now))) xs 0 k c.gates_entry.result within c.loop-k.invariant c.gates_entry.ensures i l
 
 pub returns : goal.returns
 returns g c =

@@ -21,9 +21,9 @@ loop-j-preserved g c =
     elim c.if-low-k.branch [
       | then-low-k+then-k-low w ↦
           let i : ℕ = k - (d - j) in
-          let term : f.mean w.gate-term.result ≡ t j = w.gate-term.ensures ∙ sym (middle_met f.ops laws d a b k j i (omega arith) (omega arith)) in
+          let term : f.mean w.gate_term.result ≡ t j = w.gate_term.ensures ∙ sym (middle_met f.ops laws d a b k j i (omega arith) (omega arith)) in
           ap f.mean w.sum-is ∙ w.plus-sum.ensures.means
-          ∙ sum_more f.ops laws j t (f.mean c.loop-j.sum) (f.mean w.gate-term.result) c.loop-j.invariant term
+          ∙ sum_more f.ops laws j t (f.mean c.loop-j.sum) (f.mean w.gate_term.result) c.loop-j.invariant term
       | else-low-k w ↦
           let none : t j ≡ f.ops.nil =
           elim w.else-low-k.branch [

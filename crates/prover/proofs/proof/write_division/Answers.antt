@@ -14,8 +14,8 @@ returns g c =
     let p = c.args.matrix.now in
     let v = f.mean c.args.alpha in
     let was = c.args.buffer.now in
-    let q = c.write-quotient.new.quotient in
-    let is = c.fill-remainder.new.buffer in
+    let q = c.write_quotient.new.quotient in
+    let is = c.fill_remainder.new.buffer in
     let fit = c.requires.0 in
     let some : 0 < width = fit.some in
     let under : width ≤ rows = let e = fit.row_less in omega arith in
@@ -24,5 +24,5 @@ returns g c =
     let long : length q ≡ rows - width = omega arith in
     let fits : RowsFit (length p) (length (between width rows was)) width = subst (λ (l : ℕ). RowsFit (length p) l width) (sym part) fit in
     division f.ops g.met.F.Field.lawful f.mean f.reduced p v width rows was q is some under room long (omega arith)
-    (accepted (RowsFit (length p) (length (between width rows was)) width) (Stepped f.ops f.mean f.reduced p v width q) (q ≡ between width rows was) c.write-quotient.result c.write-quotient.ensures fits)
-    c.fill-remainder.ensures.rests c.fill-remainder.ensures.beyond
+    (accepted (RowsFit (length p) (length (between width rows was)) width) (Stepped f.ops f.mean f.reduced p v width q) (q ≡ between width rows was) c.write_quotient.result c.write_quotient.ensures fits)
+    c.fill_remainder.ensures.rests c.fill_remainder.ensures.beyond

@@ -14,8 +14,8 @@ returns g c =
     let v = f.mean c.args.free in
     let a = left_scaled f.ops (claimed f.mean 0 c.args.n [] [] c.args.left.now c.args.right.now []) (f.mean c.args.beta) in
     let b = coeff f.ops (map f.mean c.args.right.now) in
-    let xs = c.fill-h2.new.cells in
-    let ys = c.solve-twist.new.cells in
+    let xs = c.fill_h2.new.cells in
+    let ys = c.solve_twist.new.cells in
     let fits : TwistFits f.ops.span d (length xs) = record { long = omega arith; near = omega arith } in
-    solution f.ops f.mean f.reduced d v a b xs ys (λ k l. c.fill-h2.ensures k (omega arith))
-    (accepted (TwistFits f.ops.span d (length xs)) (Cells f.mean f.reduced ys (solved f.ops d v (map f.mean xs))) (ys ≡ xs) c.solve-twist.result c.solve-twist.ensures fits)
+    solution f.ops f.mean f.reduced d v a b xs ys (λ k l. c.fill_h2.ensures k (omega arith))
+    (accepted (TwistFits f.ops.span d (length xs)) (Cells f.mean f.reduced ys (solved f.ops d v (map f.mean xs))) (ys ≡ xs) c.solve_twist.result c.solve_twist.ensures fits)

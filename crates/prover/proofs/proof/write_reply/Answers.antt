@@ -9,9 +9,9 @@ returns g c =
     let m = c.args.m in
     let n = c.args.n in
     let was = c.args.buffer.now in
-    let one = c.write-division.new.buffer in
-    let two = c.write-h1.new.buffer in
-    let h2 = c.write-h2.new.cells in
+    let one = c.write_division.new.buffer in
+    let two = c.write_h1.new.buffer in
+    let h2 = c.write_h2.new.cells in
     let end = m * (3 * n + 1) + (6 * n + 1) in
     let total = m * (3 * n + 1) + 8 * n in
     let long1 : length one ≡ length was = omega arith in
@@ -20,11 +20,11 @@ returns g c =
     assembled f.ops f.mean f.reduced m n c.args.matrix.now c.args.left.now c.args.right.now c.args.out.now
     (f.mean c.args.alpha) (f.mean c.args.beta) (f.mean c.args.free1) (f.mean c.args.free2) was one two h2
     c.requires.some_rows c.requires.some_gates c.requires.roomy long1 long2 part
-    c.write-division.ensures c.write-h1.ensures.keeps c.write-h1.ensures.solves c.write-h2.ensures
+    c.write_division.ensures c.write_h1.ensures.keeps c.write_h1.ensures.solves c.write_h2.ensures
 
-pub write-division-requires : goal.write-division-requires
-write-division-requires g c =
+pub write_division-requires : goal.write_division-requires
+write_division-requires g c =
     (whole_rows c.args.m (3 * c.args.n + 1) (length c.args.matrix.now) c.requires.some_rows (omega arith) c.requires.rows.long, (c.requires.rows.long, omega arith))
 
-pub write-h1-requires : goal.write-h1-requires
-write-h1-requires g c = (c.requires.wires, (first_row c.args.m (3 * c.args.n + 1) c.requires.some_rows, (omega arith, c.requires.near)))
+pub write_h1-requires : goal.write_h1-requires
+write_h1-requires g c = (c.requires.wires, (first_row c.args.m (3 * c.args.n + 1) c.requires.some_rows, (omega arith, c.requires.near)))

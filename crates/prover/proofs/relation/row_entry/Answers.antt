@@ -12,8 +12,8 @@ use Rattle.prover.proofs.relation.row_entry.Goals as goal
 place : (i width j m n : ℕ) → i < m → j < width → n ≡ m * width → i * width + j < n
 place i width j m n h k e = omega (arith, mul-add-lt i width j m h k)
 
-pub offset-bounds-matrix-i : goal.offset-bounds-matrix-i
-offset-bounds-matrix-i g c = omega (arith, place c.args.i (3 * c.args.n + 1) c.loop-j.j c.args.m _ c.requires.1.1 c.loop-j-test.true c.requires.0.long)
+pub offset_bounds-matrix-i : goal.offset_bounds-matrix-i
+offset_bounds-matrix-i g c = omega (arith, place c.args.i (3 * c.args.n + 1) c.loop-j.j c.args.m _ c.requires.1.1 c.loop-j-test.true c.requires.0.long)
 
 pub bounds-matrix-i : goal.bounds-matrix-i
 bounds-matrix-i g c = place c.args.i (3 * c.args.n + 1) c.loop-j.j c.args.m _ c.requires.1.1 c.loop-j-test.true c.requires.0.long
