@@ -36,33 +36,33 @@ returns-then-j-positions g c =
 below : (v : ℕ) (pairs : List (ℕ × ℕ)) (l e j i : ℕ) → Ready v pairs l e → (j ≡ 0 → ⊥) → j < 2 * length pairs + 1 → i ≡ name_at pairs (j - 1) → i < v
 below v pairs l e j i ready some h is = omega (arith, name_below pairs v ready.tame (j - 1) (omega arith))
 
-pub overflow-add-i : goal.overflow-add-i
-overflow-add-i g c =
-    omega (arith, below c.args.variables c.args.pairs.now _ c.args.equations c.args.j c.variable-at-i.result c.requires.0 c.if-j-eq0.false (omega arith) c.variable-at-i.ensures, c.requires.0.short)
+pub overflow_add-i : goal.overflow_add-i
+overflow_add-i g c =
+    omega (arith, below c.args.variables c.args.pairs.now _ c.args.equations c.args.j c.variable_at-i.result c.requires.0 c.if-j-eq0.false (omega arith) c.variable_at-i.ensures, c.requires.0.short)
 
-pub term-requires-then-first-position-j : goal.term-requires-then-first-position-j
-term-requires-then-first-position-j g c =
-    let low = below c.args.variables c.args.pairs.now _ c.args.equations c.args.j c.variable-at-i.result c.requires.0 c.if-j-eq0.false (omega arith) c.variable-at-i.ensures in
-    place_within c.args.k (1 + c.args.variables + length c.args.pairs.now) (1 + c.variable-at-i.result) c.args.equations _ c.requires.1.0 (omega arith) c.requires.0.full
+pub term-requires-then-first_position-j : goal.term-requires-then-first_position-j
+term-requires-then-first_position-j g c =
+    let low = below c.args.variables c.args.pairs.now _ c.args.equations c.args.j c.variable_at-i.result c.requires.0 c.if-j-eq0.false (omega arith) c.variable_at-i.ensures in
+    place_within c.args.k (1 + c.args.variables + length c.args.pairs.now) (1 + c.variable_at-i.result) c.args.equations _ c.requires.1.0 (omega arith) c.requires.0.full
 
-pub returns-then-first-position-j : goal.returns-then-first-position-j
-returns-then-first-position-j g c =
+pub returns-then-first_position-j : goal.returns-then-first_position-j
+returns-then-first_position-j g c =
     let f = g.F.Field in
     let v = c.args.variables in
     let pairs = c.args.pairs.now in
     let s = system_of f.mean v pairs c.args.coefficients.now in
-    let i = c.variable-at-i.result in
-    let low = below v pairs _ c.args.equations c.args.j i c.requires.0 c.if-j-eq0.false (omega arith) c.variable-at-i.ensures in
-    c.term-then-first-position-j.ensures
-    ∙ sym (first_cell f.ops g.met.F.Field.lawful s (used_all v pairs c.requires.0.used) c.args.k c.args.j (c.args.j - 1) i (omega arith) (omega arith) c.variable-at-i.ensures low
-    (sym c.first-position.ensures ∙ c.if-first-position-j.true))
+    let i = c.variable_at-i.result in
+    let low = below v pairs _ c.args.equations c.args.j i c.requires.0 c.if-j-eq0.false (omega arith) c.variable_at-i.ensures in
+    c.term-then-first_position-j.ensures
+    ∙ sym (first_cell f.ops g.met.F.Field.lawful s (used_all v pairs c.requires.0.used) c.args.k c.args.j (c.args.j - 1) i (omega arith) (omega arith) c.variable_at-i.ensures low
+    (sym c.first_position.ensures ∙ c.if-first_position-j.true))
 
-pub returns-else-first-position-j : goal.returns-else-first-position-j
-returns-else-first-position-j g c =
+pub returns-else-first_position-j : goal.returns-else-first_position-j
+returns-else-first_position-j g c =
     let f = g.F.Field in
     let v = c.args.variables in
     let pairs = c.args.pairs.now in
     let s = system_of f.mean v pairs c.args.coefficients.now in
     c.zero.ensures.means
-    ∙ sym (later_cell f.ops g.met.F.Field.lawful s (used_all v pairs c.requires.0.used) c.args.k c.args.j (c.args.j - 1) c.variable-at-i.result (omega arith) (omega arith) c.variable-at-i.ensures
-    (λ e. c.if-first-position-j.false (c.first-position.ensures ∙ e)))
+    ∙ sym (later_cell f.ops g.met.F.Field.lawful s (used_all v pairs c.requires.0.used) c.args.k c.args.j (c.args.j - 1) c.variable_at-i.result (omega arith) (omega arith) c.variable_at-i.ensures
+    (λ e. c.if-first_position-j.false (c.first_position.ensures ∙ e)))

@@ -3,8 +3,8 @@ use Rattle.quadratic.specs.Positions.{first, name_at}
 use Rattle.quadratic.proofs.Searches.{first_of_name}
 use Rattle.quadratic.proofs.cell.tie_cell.Goals as goal
 
-pub overflow-add-first : goal.overflow-add-first
-overflow-add-first g c =
+pub overflow_add-first : goal.overflow_add-first
+overflow_add-first g c =
     let pairs = c.args.pairs.now in
-    let is : c.first-position-first.result ≡ first pairs (name_at pairs c.args.p) = c.first-position-first.ensures ∙ ap (first pairs) c.variable-at.ensures in
+    let is : c.first_position-first.result ≡ first pairs (name_at pairs c.args.p) = c.first_position-first.ensures ∙ ap (first pairs) c.variable_at.ensures in
     omega (arith, first_of_name pairs c.args.p c.requires.0)

@@ -5,6 +5,6 @@ use Rattle.quadratic.proofs.encoding.fill_vector.Goals as goal
 pub returns : goal.returns
 returns g c =
     let f = g.F.Field in
-    let made = c.in-ok-vector.ensures in
+    let made = c.in_ok-vector.ensures in
     filled_up f.mean c.args.digest.now (vec_items c.resize.new.self) c.args.rows c.zero.result f.ops.nil c.requires c.zero.ensures.means
-    (c.in-ok-resize.ensures.items ∙ ap₂ (λ l k. take c.args.rows l ++ replicate (c.args.rows - k) c.zero.result) made.items made.len)
+    (c.in_ok-resize.ensures.items ∙ ap₂ (λ l k. take c.args.rows l ++ replicate (c.args.rows - k) c.zero.result) made.items made.len)

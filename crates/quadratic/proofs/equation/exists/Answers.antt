@@ -11,7 +11,7 @@ returns-then-coefficients-terms-eq0 c =
     let whole : c.args.coefficients % t ≡ 0 = subst (λ x. c.args.coefficients % x ≡ 0) is c.if-coefficients-terms-eq0.true in (
       λ e. record {
         stands = record {
-          fits = c.if-not-names-fit.ensures.0 refl;
+          fits = c.if-not-names_fit.ensures.0 refl;
           within = row_within c.args.k t c.args.coefficients (ltb-true c.args.k (c.args.coefficients / t) (sym rows ∙ e));
         };
         whole = whole;

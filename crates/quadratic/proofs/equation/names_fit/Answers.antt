@@ -9,7 +9,7 @@ returns-then-signature-variables c =
     let v = c.args.variables in
     let pairs = c.args.pairs.now in
     let upto : stray v pairs ≤ length pairs = first_le (λ (q : ℕ × ℕ). not (ltb q.0 v && ltb q.1 v)) pairs in
-    let test : ltb (stray v pairs) (length pairs) ≡ not c.is-none.result = sym (found_test (length pairs) (stray v pairs)) ∙ sym (ap is_some c.first-stray.ensures) ∙ c.is-none.ensures in (
+    let test : ltb (stray v pairs) (length pairs) ≡ not c.is_none.result = sym (found_test (length pairs) (stray v pairs)) ∙ sym (ap is_some c.first_stray.ensures) ∙ c.is_none.ensures in (
       λ e. record { signed = c.if-signature-variables.true; tame = omega (arith, ltb-false (stray v pairs) (length pairs) (test ∙ ap not e)) },
-      λ fits. not-false c.is-none.result (sym test ∙ le-ltb (stray v pairs) (length pairs) (omega arith)),
+      λ fits. not-false c.is_none.result (sym test ∙ le-ltb (stray v pairs) (length pairs) (omega arith)),
     )

@@ -11,14 +11,14 @@ first_within v pairs signature g fits h = omega (arith, (named_both pairs v fits
 second_within : (v : ℕ) (pairs : List (ℕ × ℕ)) (signature g : ℕ) → Named v pairs signature → g < length pairs → (get_or pairs g (0, 0)).1 < signature
 second_within v pairs signature g fits h = omega (arith, (named_both pairs v fits.tame g h).1)
 
-pub offset-bounds-signature-i : goal.offset-bounds-signature-i
-offset-bounds-signature-i g c = omega (arith, first_within c.args.variables c.args.pairs.now (length c.args.signature.now) c.args.g c.requires.0 c.requires.1)
+pub offset_bounds-signature-i : goal.offset_bounds-signature-i
+offset_bounds-signature-i g c = omega (arith, first_within c.args.variables c.args.pairs.now (length c.args.signature.now) c.args.g c.requires.0 c.requires.1)
 
 pub bounds-signature-i : goal.bounds-signature-i
 bounds-signature-i g c = first_within c.args.variables c.args.pairs.now (length c.args.signature.now) c.args.g c.requires.0 c.requires.1
 
-pub offset-bounds-signature-j : goal.offset-bounds-signature-j
-offset-bounds-signature-j g c = omega (arith, second_within c.args.variables c.args.pairs.now (length c.args.signature.now) c.args.g c.requires.0 c.requires.1)
+pub offset_bounds-signature-j : goal.offset_bounds-signature-j
+offset_bounds-signature-j g c = omega (arith, second_within c.args.variables c.args.pairs.now (length c.args.signature.now) c.args.g c.requires.0 c.requires.1)
 
 pub bounds-signature-j : goal.bounds-signature-j
 bounds-signature-j g c = second_within c.args.variables c.args.pairs.now (length c.args.signature.now) c.args.g c.requires.0 c.requires.1

@@ -10,4 +10,4 @@ loop-g-preserved g c =
     let at = product f.ops c.args.pairs.now (map f.mean c.args.signature.now) in
     c.plus-sum.ensures.means
     ∙ sum_more f.ops g.met.F.Field.lawful c.loop-g.g (λ i. f.ops.mul (term f.ops s c.args.k (1 + c.args.variables + i)) (at i)) (f.mean c.loop-g.sum) (f.mean c.times.result) c.loop-g.invariant
-    (c.times.ensures.means ∙ ap₂ f.ops.mul c.term-weight.ensures c.product-at.ensures)
+    (c.times.ensures.means ∙ ap₂ f.ops.mul c.term-weight.ensures c.product_at.ensures)

@@ -4,11 +4,11 @@ use Rattle.quadratic.specs.Positions.{names, name_at}
 use Rattle.quadratic.proofs.Searches.{first_is, first_none, length_names}
 use Rattle.quadratic.proofs.position.first_position.Goals as goal
 
-pub returns-then-i-variable-at : goal.returns-then-i-variable-at
-returns-then-i-variable-at c =
+pub returns-then-i-variable_at : goal.returns-then-i-variable_at
+returns-then-i-variable_at c =
     let pairs = c.args.pairs.now in
     let p = c.loop-p.p in
-    let here : c.args.i ≡ name_at pairs p = c.if-i-variable-at.true ∙ c.variable-at.ensures in
+    let here : c.args.i ≡ name_at pairs p = c.if-i-variable_at.true ∙ c.variable_at.ensures in
     sym (first_is (eqb c.args.i) (names pairs) 0 p (omega (arith, length_names pairs)) (eq-eqb c.args.i (name_at pairs p) here) c.loop-p.invariant)
 
 pub returns : goal.returns

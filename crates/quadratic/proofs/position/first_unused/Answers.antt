@@ -5,14 +5,14 @@ use Rattle.quadratic.specs.Positions.{first}
 use Rattle.quadratic.proofs.Searches.{first_is, first_none, found_some, found_none}
 use Rattle.quadratic.proofs.position.first_unused.Goals as goal
 
-pub returns-then-is-unused : goal.returns-then-is-unused
-returns-then-is-unused c =
+pub returns-then-is_unused : goal.returns-then-is_unused
+returns-then-is_unused c =
     let pairs = c.args.pairs.now in
     let v = c.args.variables in
     let i = c.loop-i.i in
     let test = λ (k : ℕ). eqb (first pairs k) (2 * length pairs) in
     let at = λ (k : ℕ) (h : k < v). ap test (get_or-range_with_len 0 v k 0 h ∙ zero-add k) in
-    let here : test i ≡ true = sym c.if-is-unused.ensures in
+    let here : test i ≡ true = sym c.if-is_unused.ensures in
     found_some v _ i (first_is test (range_with_len 0 v) 0 i (omega (arith, length-range_with_len 0 v)) (at i (omega arith) ∙ here)
     (λ k h. at k (omega arith) ∙ c.loop-i.invariant k h)) (omega arith)
 
