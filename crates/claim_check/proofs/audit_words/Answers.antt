@@ -16,19 +16,19 @@ same : (g : given.Over) (c : After-audit g)
 same g c =
     let stand = words_stand g.F.Field.mean g.F.Encoded.element in
     same_claim g.F.Field.mean g.F.Encoded.element _ _ _ _ _ _ _ _ _ _ _ _
-    (stand _ _ _ _ c.deref-6.ensures.value c.in-ok-matrix.ensures c.deref.ensures.value)
-    (stand _ _ _ _ c.deref-7.ensures.value c.in-ok-vector.ensures c.deref-2.ensures.value)
-    (stand _ _ _ _ c.deref-8.ensures.value c.in-ok-left.ensures c.deref-3.ensures.value)
-    (stand _ _ _ _ c.deref-9.ensures.value c.in-ok-right.ensures c.deref-4.ensures.value)
-    (stand _ _ _ _ c.deref-10.ensures.value c.in-ok-out.ensures c.deref-5.ensures.value)
+    (stand _ _ _ _ c.deref-6.ensures.value c.in_ok-matrix.ensures c.deref.ensures.value)
+    (stand _ _ _ _ c.deref-7.ensures.value c.in_ok-vector.ensures c.deref-2.ensures.value)
+    (stand _ _ _ _ c.deref-8.ensures.value c.in_ok-left.ensures c.deref-3.ensures.value)
+    (stand _ _ _ _ c.deref-9.ensures.value c.in_ok-right.ensures c.deref-4.ensures.value)
+    (stand _ _ _ _ c.deref-10.ensures.value c.in_ok-out.ensures c.deref-5.ensures.value)
 
-pub returns-in-err-found : goal.returns-in-err-found
-returns-in-err-found g c =
+pub returns-in_err-found : goal.returns-in_err-found
+returns-in_err-found g c =
     let f = g.F.Field in
-    let p = err_from_is_err_and c.from-residual-in-err-found.result c.from-residual-in-err-found.ensures.1 in
-    rw (p.1, p.2) (subst (λ (s : Claim f.K). Audited f.ops s (Err c.in-err-found.field-0.0)) (same g (goal.at.returns-in-err-found g c).After-audit) c.in-err-found.ensures)
+    let p = err_from_is_err_and c.from_residual-in_err-found.result c.from_residual-in_err-found.ensures.1 in
+    rw (p.1, p.2) (subst (λ (s : Claim f.K). Audited f.ops s (Err c.in_err-found.field-0.0)) (same g (goal.at.returns-in_err-found g c).After-audit) c.in_err-found.ensures)
 
 pub returns : goal.returns
 returns g c =
     let f = g.F.Field in
-    subst (λ (s : Claim f.K). Audited f.ops s (Ok c.in-ok-found.found)) (same g (goal.at.returns g c).After-audit) c.in-ok-found.ensures
+    subst (λ (s : Claim f.K). Audited f.ops s (Ok c.in_ok-found.found)) (same g (goal.at.returns g c).After-audit) c.in_ok-found.ensures

@@ -6,7 +6,7 @@ pub loop-word-preserved : goal.loop-word-preserved
 loop-word-preserved g c =
     let words = c.args.words.now in
     let within : c.loop-word.word-index < length words = omega arith in
-    c.in-ok-push.ensures.items ∙ ap₂ (λ xs x. xs ++ x ∷ []) c.loop-word.invariant c.from-word.ensures
+    c.in_ok-push.ensures.items ∙ ap₂ (λ xs x. xs ++ x ∷ []) c.loop-word.invariant c.from_word.ensures
     ∙ sym (map_more g.F.Encoded.element words c.loop-word.word-index 0 within)
 
 pub returns : goal.returns
