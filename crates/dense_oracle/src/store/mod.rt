@@ -1,7 +1,6 @@
 ghost use Rattle.std.specs.Prelude.{◌≡◌, ◌^◌, ◌<◌, ◌≤◌, min, true, length, take, vec_len};
 ghost use Rattle.oracle.specs.Tables.{chained};
 
-use field::Field;
 use oracle::Table;
 
 pub mod calls;
@@ -9,7 +8,7 @@ pub mod calls;
 // An oracle that stores every coefficient. The polynomials lie one behind the other in the first `filled` entries of
 // the storage, which is made once and as large as they can ever need.
 #[derive(Drop)]
-pub struct DenseOracle<F: Field> {
+pub struct DenseOracle<F> {
     storage: Vec<F>,
     table: Table,
     filled: usize,

@@ -5,5 +5,5 @@ use Rattle.equations.proofs.value_of.Goals as goal
 
 pub returns-in-Err : goal.returns-in-Err
 returns-in-Err g c =
-    let f = g.Elem.Field in
+    let f = g.O.Elem.Field in
     c.zero.ensures.means ∙ absent_nil f.ops (g.O.Oracle.stand c.args.oracle.now f) c.args.k (f.mean c.args.x) (told c.in-Err.field-0) c.in-Err.ensures.answer

@@ -3,7 +3,6 @@ ghost use Rattle.oracle.specs.Tables.{chained, parts};
 ghost use Rattle.sparse_oracle.specs.Terms.{all_climb};
 
 use crate::term::Term;
-use field::Field;
 use oracle::Table;
 
 pub mod calls;
@@ -11,7 +10,7 @@ pub mod calls;
 // An oracle that stores the coefficients other than zero. The terms of the polynomials lie one polynomial behind the
 // other in the first `filled` entries of the storage, which is made once and as large as they can ever need.
 #[derive(Drop)]
-pub struct SparseOracle<F: Field> {
+pub struct SparseOracle<F> {
     terms: Vec<Term<F>>,
     table: Table,
     lengths: [usize; 16],

@@ -23,7 +23,7 @@ loop-i-preserved g c =
     let up : ℕ → f.K = λ n. f.ops.mul raised (power f.ops x (n - c.loop-i.reached)) in
     let new : f.K → f.K = λ y. f.ops.mul (f.mean t.coefficient) y in
     let rest : ℕ → f.K → f.K = λ n y. walked f.ops f.mean x n y (drop (c.loop-i.i + 1) ts) in
-    let raise : f.mean c.times-raised.result ≡ up e = c.times-raised.ensures.means ∙ ap (f.ops.mul raised) (c.power.ensures.means ∙ ap (power f.ops x) c.saturating-sub.ensures) in
+    let raise : f.mean c.times-raised.result ≡ up e = c.times-raised.ensures.means ∙ ap (f.ops.mul raised) (c.power.ensures.means ∙ ap (power f.ops x) c.saturating_sub.ensures) in
     let more = c.plus-sum.ensures.means ∙ ap (f.ops.add sum) (c.times.ensures.means ∙ ap new raise) in
     let left = walked_step f.ops f.mean x c.loop-i.reached raised ts c.loop-i.i t c.loop-i-test.true c.index-terms-i.is ∙ ap (λ n. f.ops.add (new (up n)) (rest n (up n))) (sym c.degree-degree.ensures) in (
       ap₂ f.ops.add more (ap (rest e) raise)

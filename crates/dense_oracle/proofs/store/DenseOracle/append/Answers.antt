@@ -18,7 +18,7 @@ invariant_of-self g c =
     let s = c.args.self.now in
     let r = roomy s g.F.Field.mean c.args.p.now c.requires in
     let chain = chains.chain_more s.table.entries s.table.len s.filled s.wide s.few s.chain _ (length c.args.p.now) c.set.ensures r.few r.short in
-    (s.small, (s.stocked, (r.room, (simp length-set s.wide, (omega (arith, r.few), (chain, tt))))))
+    record { small = s.small; stocked = s.stocked; room = r.room; wide = simp length-set s.wide; few = omega (arith, r.few); chain = chain }
 
 pub returns : goal.returns
 returns g c =
