@@ -10,8 +10,8 @@ room-requires g c =
     let st = g.O.Oracle.stand c.args.self.now.oracle f in
     let xs = map f.mean c.args.matrix.now in
     let ys = map f.mean c.args.vector.now in
-    let range = sym c.if-not-in-range.ensures in
-    let shape = sym c.if-not-in-shape.ensures in (
+    let range = sym c.if-not-in_range.ensures in
+    let shape = sym c.if-not-in_shape.ensures in (
       omega (arith, length-map c.args.matrix.now f.mean, matrix_fits f.ops st c.args.m c.args.n xs ys range shape),
       omega (arith, length-map c.args.vector.now f.mean, vector_fits f.ops st c.args.m c.args.n xs ys range shape),
     )
@@ -22,8 +22,8 @@ returns g c =
     let st = g.O.Oracle.stand c.args.self.now.oracle f in
     let xs = map f.mean c.args.matrix.now in
     let ys = map f.mean c.args.vector.now in
-    let range = sym c.if-not-in-range.ensures in
-    let shape = sym c.if-not-in-shape.ensures in
+    let range = sym c.if-not-in_range.ensures in
+    let shape = sym c.if-not-in_shape.ensures in
     record {
       answer = c.room.ensures ∙ ap answer_by (sym (open_is f.ops st c.args.m c.args.n xs ys range shape));
       fits = fits_if f.ops st c.args.m c.args.n xs ys range shape c.room.result c.room.ensures;

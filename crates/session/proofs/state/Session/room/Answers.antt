@@ -4,16 +4,16 @@ use Rattle.oracle.specs.Faults.{told}
 use Rattle.session.proofs.Opens.{needs_given}
 use Rattle.session.proofs.state.Session.room.Goals as goal
 
-pub returns-in-err-rows : goal.returns-in-err-rows
-returns-in-err-rows g c =
+pub returns-in_err-rows : goal.returns-in_err-rows
+returns-in_err-rows g c =
     let f = g.Elem.Field in
     let p = map f.mean c.args.matrix.now in
     let l : length p ≤ 16384 = omega (arith, length-map c.args.matrix.now f.mean, c.requires.0) in
-    absurd (needs_given (g.O.Oracle.stand c.args.self.now.oracle f) p (told c.in-err-rows.field-0.0) l c.in-err-rows.ensures)
+    absurd (needs_given (g.O.Oracle.stand c.args.self.now.oracle f) p (told c.in_err-rows.field-0.0) l c.in_err-rows.ensures)
 
-pub returns-in-err-entries : goal.returns-in-err-entries
-returns-in-err-entries g c =
+pub returns-in_err-entries : goal.returns-in_err-entries
+returns-in_err-entries g c =
     let f = g.Elem.Field in
     let p = map f.mean c.args.vector.now in
     let l : length p ≤ 16384 = omega (arith, length-map c.args.vector.now f.mean, c.requires.1) in
-    absurd (needs_given (g.O.Oracle.stand c.args.self.now.oracle f) p (told c.in-err-entries.field-0.0) l c.in-err-entries.ensures)
+    absurd (needs_given (g.O.Oracle.stand c.args.self.now.oracle f) p (told c.in_err-entries.field-0.0) l c.in_err-entries.ensures)

@@ -23,14 +23,14 @@ returns-then-p-limit g c =
     let fits = put_many s.oracle (allowed s.turn s.m s.n) p long in
     record { answer = ap answer_by (sym fits); after = ap (λ o. after_by o s (accepted f.ops s (puts p))) (sym fits) }
 
-pub returns-in-err-fix : goal.returns-in-err-fix
-returns-in-err-fix g c =
+pub returns-in_err-fix : goal.returns-in_err-fix
+returns-in_err-fix g c =
     let f = g.Elem.Field in
     let s : State f.K = state_of g.O.Oracle f c.args.self.now in
     let p = map f.mean c.args.p.now in
     let short : length p ≤ allowed s.turn s.m s.n = omega (arith, length-map c.args.p.now f.mean, c.limit.ensures, c.if-p-limit.false) in
-    let put = put_refused s.oracle (allowed s.turn s.m s.n) p (g.O.Oracle.stand c.fix.new.self f) short c.fix.ensures.after (oracle.told c.in-err-fix.field-0.0) c.in-err-fix.ensures.answer in
-    let out = err_from_is_err_and c.from-residual.result c.from-residual.ensures.1 in
+    let put = put_refused s.oracle (allowed s.turn s.m s.n) p (g.O.Oracle.stand c.fix.new.self f) short c.fix.ensures.after (oracle.told c.in_err-fix.field-0.0) c.in_err-fix.ensures.answer in
+    let out = err_from_is_err_and c.from_residual.result c.from_residual.ensures.1 in
     record {
       answer = ap told_answer out.1 ∙ ap (λ x. Err (told x)) out.2 ∙ ap answer_by (sym put.fits);
       after = ap (over s s.turn) put.stands ∙ ap (λ o. after_by o s (accepted f.ops s (puts p))) (sym put.fits);
@@ -42,7 +42,7 @@ returns g c =
     let s : State f.K = state_of g.O.Oracle f c.args.self.now in
     let p = map f.mean c.args.p.now in
     let short : length p ≤ allowed s.turn s.m s.n = omega (arith, length-map c.args.p.now f.mean, c.limit.ensures, c.if-p-limit.false) in
-    let put = put_accepted s.oracle (allowed s.turn s.m s.n) p (g.O.Oracle.stand c.fix.new.self f) short c.fix.ensures.after c.in-ok-fix.field-0 c.in-ok-fix.ensures.answer in
+    let put = put_accepted s.oracle (allowed s.turn s.m s.n) p (g.O.Oracle.stand c.fix.new.self f) short c.fix.ensures.after c.in_ok-fix.field-0 c.in_ok-fix.ensures.answer in
     record {
       answer = ap answer_by (sym put.fits);
       after = ap (over s (s.turn + 1)) put.stands ∙ ap (λ o. after_by o s (accepted f.ops s (puts p))) (sym put.fits);
