@@ -12,7 +12,7 @@ use Rattle.session.specs.declared.state.Session.{Session}
 use Rattle.session.specs.declared.verdicts.Report.{Report}
 
 -- the state that a session stands for, over an oracle and the field of its elements
-abbrev pub state_of : {O E : Type 0} → OracleGhosts O E → (f : FieldGhosts E) → Session O E → State f.K
+abbrev pub state_of : {O E : Type 0} → (o : OracleGhosts O E) → (f : FieldGhosts E) → Session O E o f → State f.K
 state_of o f s = record {
   oracle = o.stand s.oracle f;
   turn = s.turn;
@@ -26,15 +26,15 @@ state_of o f s = record {
 }
 
 -- what it reports
-abbrev pub report_of : {O E : Type 0} → Session O E → Report
+abbrev pub report_of : {O E : Type 0} → {o : OracleGhosts O E} → {f : FieldGhosts E} → Session O E o f → Report
 report_of s = record { turn = s.turn; verdict = s.verdict; count = s.count }
 
 -- the call c tried on a session s, with the refusal that fits it, if any: the session t after it, and the answer r
-abbrev pub Tries : {O E : Type 0} → OracleGhosts O E → (f : FieldGhosts E) → Option Told → Move f.K → Session O E → Session O E → Result (Unit {0}) SessionFault → Type 0
+abbrev pub Tries : {O E : Type 0} → (o : OracleGhosts O E) → (f : FieldGhosts E) → Option Told → Move f.K → Session O E o f → Session O E o f → Result (Unit {0}) SessionFault → Type 0
 Tries o f refusal c s t r = Tried refusal (state_of o f s) (accepted f.ops (state_of o f s) c) (state_of o f t) r
 
 -- the call c made on a session s: the session t after it, and the answer r
-abbrev pub Makes : {O E : Type 0} → OracleGhosts O E → (f : FieldGhosts E) → Move f.K → Session O E → Session O E → Result (Unit {0}) SessionFault → Type 0
+abbrev pub Makes : {O E : Type 0} → (o : OracleGhosts O E) → (f : FieldGhosts E) → Move f.K → Session O E o f → Session O E o f → Result (Unit {0}) SessionFault → Type 0
 Makes o f c s t r = Made f.ops c (state_of o f s) (state_of o f t) r
 
 -- the sizes of an open are not too large, and M and after it x find room in the oracle once it is cleared

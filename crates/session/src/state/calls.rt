@@ -17,7 +17,7 @@ use prover::in_range;
 impl<O: Oracle> Session<O> {
     // A session at turn 0, over the oracle, which is cleared.
     pub fn new(mut oracle: O) -> Session<O>
-        ensures { state_of O.Oracle Elem-as-Field result ≡ fresh Elem-as-Field.ops (O.Oracle.stand oracle Elem-as-Field) }
+        ensures { state_of O.Oracle O.Elem.Field result ≡ fresh O.Elem.Field.ops (O.Oracle.stand oracle O.Elem.Field) }
     {
         oracle.clear();
         let none = O::Elem::zero();

@@ -6,6 +6,6 @@ use Rattle.session.proofs.runs.run.Given as goal
 
 abbrev pub invariant-loop-call : goal.invariant-loop-call
 invariant-loop-call g l =
-    let f = g.Elem.Field in
+    let f = g.O.Elem.Field in
     ran f.ops (state_of g.O.Oracle f l.session) (map (move_of f.mean) (drop l.call-index l.calls))
     ≡ ran f.ops (state_of g.O.Oracle f l.initial.session) (map (move_of f.mean) l.calls)

@@ -6,7 +6,7 @@ use Rattle.session.proofs.state.Session.openable.Goals as goal
 
 pub room-requires : goal.room-requires
 room-requires g c =
-    let f = g.Elem.Field in
+    let f = g.O.Elem.Field in
     let st = g.O.Oracle.stand c.args.self.now.oracle f in
     let xs = map f.mean c.args.matrix.now in
     let ys = map f.mean c.args.vector.now in
@@ -18,7 +18,7 @@ room-requires g c =
 
 pub returns : goal.returns
 returns g c =
-    let f = g.Elem.Field in
+    let f = g.O.Elem.Field in
     let st = g.O.Oracle.stand c.args.self.now.oracle f in
     let xs = map f.mean c.args.matrix.now in
     let ys = map f.mean c.args.vector.now in

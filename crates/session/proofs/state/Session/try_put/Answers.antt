@@ -16,7 +16,7 @@ over s t o = record { oracle = o; turn = t; m = s.m; n = s.n; alpha = s.alpha; b
 
 pub returns-then-p-limit : goal.returns-then-p-limit
 returns-then-p-limit g c =
-    let f = g.Elem.Field in
+    let f = g.O.Elem.Field in
     let s : State f.K = state_of g.O.Oracle f c.args.self.now in
     let p = map f.mean c.args.p.now in
     let long : allowed s.turn s.m s.n < length p = omega (arith, length-map c.args.p.now f.mean, c.limit.ensures, c.if-p-limit.true) in
@@ -25,7 +25,7 @@ returns-then-p-limit g c =
 
 pub returns-in_err-fix : goal.returns-in_err-fix
 returns-in_err-fix g c =
-    let f = g.Elem.Field in
+    let f = g.O.Elem.Field in
     let s : State f.K = state_of g.O.Oracle f c.args.self.now in
     let p = map f.mean c.args.p.now in
     let short : length p ≤ allowed s.turn s.m s.n = omega (arith, length-map c.args.p.now f.mean, c.limit.ensures, c.if-p-limit.false) in
@@ -38,7 +38,7 @@ returns-in_err-fix g c =
 
 pub returns : goal.returns
 returns g c =
-    let f = g.Elem.Field in
+    let f = g.O.Elem.Field in
     let s : State f.K = state_of g.O.Oracle f c.args.self.now in
     let p = map f.mean c.args.p.now in
     let short : length p ≤ allowed s.turn s.m s.n = omega (arith, length-map c.args.p.now f.mean, c.limit.ensures, c.if-p-limit.false) in
