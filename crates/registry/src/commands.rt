@@ -38,7 +38,9 @@ pub enum Ending {
 // Reads the claim in a file and prints the verdict; where the claim is false, also what fails, as a note.
 pub fn check(rt: &HostRuntime, path: &str) -> anyhow::Result<Ending> {
     let heap = rt.alloc();
-    let text = contents(rt, path)?;
+    let Some(text) = contents(rt, path)? else {
+        return Ok(Ending::Refused);
+    };
     let outcome = check_text(heap, &text);
     rt.println(verdict(heap, outcome)?)?;
     match outcome {
@@ -56,7 +58,9 @@ pub fn prove(rt: &HostRuntime, path: &str, words: &[String]) -> anyhow::Result<E
     if !well_formed(words) {
         return Err(anyhow!("prove: an option is not one of those in registry --help"));
     }
-    let text = contents(rt, path)?;
+    let Some(text) = contents(rt, path)? else {
+        return Ok(Ending::Refused);
+    };
     match claim_file::read(rt.alloc(), &text) {
         Ok(claim) => prove_at(rt, &claim, words),
         Err(e) => refuse(rt, CheckFault::Unreadable(e)),
@@ -98,11 +102,14 @@ fn refuse(rt: &HostRuntime, fault: CheckFault) -> anyhow::Result<Ending> {
     Ok(Ending::Refused)
 }
 
-// The bytes of a file.
-fn contents(rt: &HostRuntime, path: &str) -> anyhow::Result<Vec<u8>> {
+// The bytes of a file. Where it cannot be read, that is told here, since an `anyhow::Error` would cut a long path.
+fn contents(rt: &HostRuntime, path: &str) -> anyhow::Result<Option<Vec<u8>>> {
     match fs::read(rt, path) {
-        Ok(text) => Ok(text),
-        Err(e) => Err(anyhow!(format!(in rt.alloc(); "{path}: {e}")?)),
+        Ok(text) => Ok(Some(text)),
+        Err(e) => {
+            eprintln!(rt; "registry: {path}: {e}")?;
+            Ok(None)
+        }
     }
 }
 

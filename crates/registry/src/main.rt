@@ -6,14 +6,16 @@ mod options;
 use anyhow::anyhow;
 use commands::Ending;
 use std::env;
+use std::process::ExitCode;
 
-fn main(rt: HostRuntime) -> anyhow::Result<()> {
+// Where a command fails, the error is told in one line; that nobody may read it changes nothing.
+fn main(rt: HostRuntime) -> ExitCode {
     match run(&rt) {
-        Ok(Ending::Done) => Ok(()),
-        Ok(Ending::Refused) => Err(anyhow!("refused")),
+        Ok(Ending::Done) => ExitCode::SUCCESS,
+        Ok(Ending::Refused) => ExitCode::FAILURE,
         Err(e) => {
-            eprintln!(rt; "registry: {e}")?;
-            Err(e)
+            let _ = eprintln!(rt; "registry: {e}");
+            ExitCode::FAILURE
         }
     }
 }

@@ -18,15 +18,15 @@ below m number some w (x, e) = subst (λ (k : ℕ). k < m) (sym e) (mod-lt (numb
 pub returns-in-Mersenne31 : goal.returns-in-Mersenne31
 returns-in-Mersenne31 c =
     let claim = meaning c.args.claim.now in
-    let r = c.prove-words.result in
+    let r = c.prove_words.result in
     subst (λ (n : FieldName). ProvesIn n claim c.args.at r) (sym c.in-Mersenne31.is)
-    (weaker modulo rem _ (λ w. w < p) _ _ _ _ _ r (below p _ (lit< tt)) c.prove-words.ensures)
+    (weaker modulo rem _ (λ w. w < p) _ _ _ _ _ r (below p _ (lit< tt)) c.prove_words.ensures)
 
 pub returns-in-Gf256 : goal.returns-in-Gf256
 returns-in-Gf256 c =
     let claim = meaning c.args.claim.now in
-    let r = c.prove-words-in-Gf256.result in
+    let r = c.prove_words-in-Gf256.result in
     let number : Gf256 → ℕ = λ x. x.0 in
     let same : ◌≡◌ {A = ℕ → Byte} (λ w. low (w % 256)) low = fun_ext (λ w. below_path 256 (mod-mod w 256)) in
     subst (λ (n : FieldName). ProvesIn n claim c.args.at r) (sym c.in-Gf256.is)
-    (weaker bytes low _ (λ w. w < 256) _ _ _ _ _ r (below 256 number (lit< tt)) (subst (λ (stands : ℕ → Byte). ProvesWords bytes stands (Written (λ x. number x % 256)) claim c.args.at r) same c.prove-words-in-Gf256.ensures))
+    (weaker bytes low _ (λ w. w < 256) _ _ _ _ _ r (below 256 number (lit< tt)) (subst (λ (stands : ℕ → Byte). ProvesWords bytes stands (Written (λ x. number x % 256)) claim c.args.at r) same c.prove_words-in-Gf256.ensures))

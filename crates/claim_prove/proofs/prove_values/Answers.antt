@@ -20,19 +20,19 @@ returns g c =
     let v1 = f.mean c.args.free1 in
     let v2 = f.mean c.args.free2 in
     let s = claimed f.mean m n c.args.matrix.now [] c.args.left.now c.args.right.now c.args.out.now in
-    let lies = c.in-ok-layout.ensures.1 in
-    let proved = c.in-ok-prove.ensures in
-    let was = c.as-mut-slice.result.now in
+    let lies = c.in_ok-layout.ensures.1 in
+    let proved = c.in_ok-prove.ensures in
+    let was = c.as_mut_slice.result.now in
     let is = c.prove.new.buffer in
     let ys = c.deref.result.now in
-    let value : ys ≡ is = c.deref.ensures.value ∙ with_items_is c.in-ok-cells.cells is (omega (arith, c.as-mut-slice.ensures.len)) in
-    let end : c.in-ok-layout.layout.h2_end ≡ reply_cells m n = ap (λ (l : Layout). l.h2_end) lies in
-    let made = c.in-ok-cells.ensures in
-    let room : length was ≡ reply_cells m n = omega (arith, c.as-mut-slice.ensures.len) in
+    let value : ys ≡ is = c.deref.ensures.value ∙ with_items_is c.in_ok-cells.cells is (omega (arith, c.as_mut_slice.ensures.len)) in
+    let end : c.in_ok-layout.layout.h2_end ≡ reply_cells m n = ap (λ (l : Layout). l.h2_end) lies in
+    let made = c.in_ok-cells.ensures in
+    let room : length was ≡ reply_cells m n = omega (arith, c.as_mut_slice.ensures.len) in
     let long : length ys ≡ reply_cells m n = ap length value ∙ omega arith in
-    let p = c.in-ok-proof.proof in
+    let p = c.in_ok-proof.proof in
     let words = subst (λ (l : Layout). (vec_items p.r ≡ map e.spelling (between 0 l.r_end ys)) × (vec_items p.q ≡ map e.spelling (between l.r_end l.q_end ys))
-    × (vec_items p.h1 ≡ map e.spelling (between l.q_end l.h1_end ys)) × (vec_items p.h2 ≡ map e.spelling (between l.h1_end l.h2_end ys))) lies c.in-ok-proof.ensures in
+    × (vec_items p.h1 ≡ map e.spelling (between l.q_end l.h1_end ys)) × (vec_items p.h2 ≡ map e.spelling (between l.h1_end l.h2_end ys))) lies c.in_ok-proof.ensures in
     record {
       taken = subst (λ (l : ℕ). proof_refusal f.ops s α β l ≡ None) room proved.0;
       replied = subst (λ (r : Reply f.K). Replied f.ops s r α β v1 v2)

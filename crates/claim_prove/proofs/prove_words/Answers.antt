@@ -11,8 +11,8 @@ returns g c =
     let e = g.F.Encoded in
     let stand = words_stand f.mean e.element in
     let same = same_claim f.mean e.element c.args.claim.now.m c.args.claim.now.n _ [] _ _ _ _ [] _ _ _
-    (stand _ _ _ _ c.deref-5.ensures.value c.in-ok-matrix.ensures c.deref.ensures.value) refl
-    (stand _ _ _ _ c.deref-6.ensures.value c.in-ok-left.ensures c.deref-2.ensures.value)
-    (stand _ _ _ _ c.deref-7.ensures.value c.in-ok-right.ensures c.deref-3.ensures.value)
-    (stand _ _ _ _ c.deref-8.ensures.value c.in-ok-out.ensures c.deref-4.ensures.value) in
-    rw (ap f.mean c.from-word.ensures, ap f.mean c.from-word-2.ensures, ap f.mean c.from-word-3.ensures, ap f.mean c.from-word-4.ensures, same) at c.prove-values.ensures
+    (stand _ _ _ _ c.deref-5.ensures.value c.in_ok-matrix.ensures c.deref.ensures.value) refl
+    (stand _ _ _ _ c.deref-6.ensures.value c.in_ok-left.ensures c.deref-2.ensures.value)
+    (stand _ _ _ _ c.deref-7.ensures.value c.in_ok-right.ensures c.deref-3.ensures.value)
+    (stand _ _ _ _ c.deref-8.ensures.value c.in_ok-out.ensures c.deref-4.ensures.value) in
+    rw (ap f.mean c.from_word.ensures, ap f.mean c.from_word-2.ensures, ap f.mean c.from_word-3.ensures, ap f.mean c.from_word-4.ensures, same) at c.prove_values.ensures

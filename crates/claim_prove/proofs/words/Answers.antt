@@ -6,7 +6,7 @@ pub loop-x-preserved : goal.loop-x-preserved
 loop-x-preserved g c =
     let values = c.args.values.now in
     let within : c.loop-x.x-index < length values = omega arith in
-    c.in-ok-push.ensures.items ∙ ap₂ (λ xs x. xs ++ x ∷ []) c.loop-x.invariant (c.to-word.ensures ∙ ap g.F.Encoded.spelling c.x-item.is)
+    c.in_ok-push.ensures.items ∙ ap₂ (λ xs x. xs ++ x ∷ []) c.loop-x.invariant (c.to_word.ensures ∙ ap g.F.Encoded.spelling c.x-item.is)
     ∙ sym (map_more g.F.Encoded.spelling values c.loop-x.x-index c.x-item.result within)
 
 pub returns : goal.returns

@@ -62,8 +62,8 @@ fn taken<O: Oracle>(heap: Global, oracle: &mut O, p: &[O::Elem]) -> anyhow::Resu
 
 fn refusal(heap: Global, e: OracleFault) -> anyhow::Error {
     match format!(in heap; "an oracle refuses with {}", e.number()) {
-        Ok(words) => words.into(),
-        Err(_) => "an oracle refuses".into(),
+        Ok(words) => anyhow!(words),
+        Err(_) => anyhow!("an oracle refuses"),
     }
 }
 

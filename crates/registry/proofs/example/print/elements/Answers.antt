@@ -10,7 +10,7 @@ pub loop-b-preserved : goal.loop-b-preserved
 loop-b-preserved c =
     let bytes = c.args.bytes.now in
     let within : c.loop-b.b-index < length bytes = omega arith in
-    c.in-ok-push.ensures.items ∙ ap (λ xs. xs ++ byte (get_or bytes c.loop-b.b-index 0) ∷ []) c.loop-b.invariant
+    c.in_ok-push.ensures.items ∙ ap (λ xs. xs ++ byte (get_or bytes c.loop-b.b-index 0) ∷ []) c.loop-b.invariant
     ∙ sym (map_more byte bytes c.loop-b.b-index 0 within)
 
 pub returns : goal.returns
