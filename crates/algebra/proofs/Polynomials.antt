@@ -1,12 +1,12 @@
 -- Values, products with X^n - v, and the middle product.
-use Rattle.std.proofs.Common.{◌≡◌, ℕ, zero, suc, ◌+◌, ◌-◌, ◌<◌, ◌≤◌, Bool, true, false, cond, eqb, List, [], ◌∷◌, length, sym, refl, ap, ◌∙◌, ap₂, arith, eq-eqb, ne_eqb}
+use Rattle.std.proofs.Common.{◌≡◌, ℕ, suc, ◌+◌, ◌-◌, ◌<◌, ◌≤◌, cond, eqb, List, [], ◌∷◌, length, sym, refl, ap, ◌∙◌, ap₂, arith, eq-eqb, ne_eqb}
 use native.Mathlib.Decide.{dec_lt}
 use Rattle.std.proofs.lemmas.List.{get_or_past}
 use Rattle.field.specs.Field.{Ops, Laws, power}
 use Rattle.field.proofs.Ring as R
-use Rattle.field.proofs.Solve.{ring, Form, ◌⊕◌, ◌⊗◌, ⊖◌, nul, v0, v1, v2}
+use Rattle.field.proofs.Solve.{ring, ◌⊕◌, ◌⊗◌, ⊖◌, nul, v0, v1, v2}
 use Rattle.algebra.specs.Sums.{sum, sub}
-use Rattle.algebra.specs.Polynomials.{coeff, value, monomial, binomial, product, Divides, middle}
+use Rattle.algebra.specs.Polynomials.{coeff, value, monomial, binomial, product, Divides}
 use Rattle.algebra.proofs.Sums as S
 
 module _ {K : Type 0} (f : Ops K) (laws : Laws f) where

@@ -1,5 +1,5 @@
 -- The entries of (1, wl, wr, wo), and errors that are zero.
-use Rattle.std.proofs.Common.{◌≡◌, ℕ, zero, suc, ◌+◌, ◌-◌, ◌*◌, ◌<◌, ◌≤◌, Bool, true, false, sym, refl, ap, ◌∙◌, arith}
+use Rattle.std.proofs.Common.{◌≡◌, ℕ, zero, suc, ◌+◌, ◌*◌, ◌<◌, true, false, refl, ap, ◌∙◌, arith}
 use Rattle.field.specs.Field.{Ops, Laws}
 use Rattle.field.proofs.Ring as R
 use Rattle.algebra.specs.Sums.{sub}

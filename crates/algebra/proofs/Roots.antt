@@ -3,7 +3,7 @@ use Rattle.std.proofs.Common.{◌≡◌, ℕ, zero, suc, ◌<◌, ◌≤◌, Boo
 use native.Mathlib.Decide.{dec_le}
 use Rattle.field.specs.Field.{Ops, Laws}
 use Rattle.field.proofs.Ring as R
-use Rattle.field.proofs.Solve.{ring, Form, ◌⊕◌, ◌⊗◌, ⊖◌, nul, v0, v1, v2, v3, v4}
+use Rattle.field.proofs.Solve.{ring, ◌⊕◌, ◌⊗◌, ⊖◌, nul, v0, v1, v2, v3, v4}
 use Rattle.algebra.specs.Sums.{sub}
 use Rattle.algebra.specs.Relation.{ZeroBelow}
 use Rattle.algebra.specs.Roots.{Each, Distinct}

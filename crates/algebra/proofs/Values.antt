@@ -2,7 +2,7 @@
 use Rattle.std.proofs.Common.{◌≡◌, ℕ, zero, suc, ◌+◌, ◌-◌, ◌<◌, ◌≤◌, List, [], ◌∷◌, length, sym, refl, ap, ◌∙◌, ap₂, arith}
 use Rattle.field.specs.Field.{Ops, Laws, power}
 use Rattle.field.proofs.Ring as R
-use Rattle.field.proofs.Solve.{ring, Form, ◌⊕◌, ◌⊗◌, ⊖◌, nul, uni, v0, v1, v2, v3, v4}
+use Rattle.field.proofs.Solve.{ring, ◌⊕◌, ◌⊗◌, ⊖◌, nul, uni, v0, v1, v2, v3, v4}
 use Rattle.algebra.specs.Sums.{sum, sub}
 use Rattle.algebra.specs.Polynomials.{coeff, value}
 use Rattle.algebra.specs.Relation.{join}

@@ -1,5 +1,5 @@
 -- Lists of pairwise distinct values.
-use Rattle.std.specs.Prelude.{◌≡◌, List, [], ◌∷◌, ◌≢◌}
+use Rattle.std.specs.Prelude.{List, [], ◌∷◌, ◌≢◌}
 
 -- P holds of every entry
 abbrev pub Each : {K : Type 0} → (K → Type 0) → List K → Type 0

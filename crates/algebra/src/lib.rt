@@ -1,5 +1,7 @@
 // Mathematics over every field that keeps the laws: its definitions stand in `specs/`. The functions
 // here do nothing; each has a theorem in its contract.
+#![tactic(auto)]
+
 ghost use Rattle.algebra.specs.Theorems.{Sound, Complete, Ends};
 ghost use Rattle.algebra.specs.Theorems.{FewAlpha, FewBeta, FewZ, RootBound};
 

@@ -1,5 +1,5 @@
 -- The claim that a list of values stands for, where each value is the one of a word.
-use Rattle.std.proofs.Common.{◌≡◌, ℕ, List, map, ap, ◌∙◌, ap₂}
+use Rattle.std.proofs.Common.{◌≡◌, ℕ, List, map, ap, ◌∙◌}
 use mathlib.Core.List.{map-map}
 use Rattle.prover.specs.Claims.{claimed}
 

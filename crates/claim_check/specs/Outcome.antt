@@ -6,7 +6,6 @@ use Rattle.prover.specs.Findings.{Audited}
 use Rattle.prover.specs.Refusals.{told as refusal_told}
 use Rattle.claim_file.specs.Faults.{told as read_told}
 use Rattle.prover.specs.declared.relation.Finding.{Finding}
-use Rattle.prover.specs.declared.refusal.Refusal.{Refusal}
 use Rattle.claim_file.specs.Grammar.{Claim, read_spec}
 use Rattle.claim_file.specs.Answer.{Refuses}
 use Rattle.claim_file.specs.declared.FieldName.{FieldName}

@@ -1,4 +1,6 @@
 // Checks the claim that a text says.
+#![tactic(auto)]
+
 ghost use Rattle.std.specs.Prelude.{◌≡◌, map, IfOk};
 ghost use Rattle.claim_file.specs.Answer.{meaning};
 ghost use Rattle.claim_file.specs.declared.ReadFault.TheVariants.{NoMemory};

@@ -2,7 +2,7 @@
 use Rattle.std.proofs.Common.{◌≡◌, ℕ, ◌+◌, ◌-◌, ◌<◌, ◌≤◌, Bool, true, false, cond, ◌||◌, eqb, ◌⊎◌, List, [], ◌∷◌, ◌++◌, length, get_or, take, drop, sym, refl, ap, ◌∙◌, subst, inl, inr, ⊎_elim, append_assoc, append-nil, arith}
 use Rattle.std.proofs.lemmas.List.{drop-drop, get_or-drop, length-take-le, length-drop, drop_more, drop_all, take_more}
 use Rattle.std.proofs.lemmas.Bool.{cases_lt, or_parts, or_cases, cases_Bool, eqb-true, both_ways, false≢true}
-use Rattle.claim_file.specs.Lexical.{Located, next_line, last_line, blank, bare, ended, words_after}
+use Rattle.claim_file.specs.Lexical.{next_line, last_line, blank, bare, ended, words_after}
 use Rattle.claim_file.specs.State.{apart}
 
 -- what a byte of a word is not

@@ -1,5 +1,5 @@
 -- A written claim is read back.
-use Rattle.std.proofs.Common.{◌≡◌, ℕ, ◌+◌, ◌*◌, ◌^◌, ◌<◌, ◌≤◌, Bool, true, false, cond, not, ◌&&◌, eqb, ltb, List, [], ◌∷◌, ◌++◌, length, get_or, take, Some, Ok, codes, decimal, sym, refl, ap, ◌∙◌, append_assoc, append-nil, arith}
+use Rattle.std.proofs.Common.{◌≡◌, ℕ, ◌+◌, ◌*◌, ◌^◌, ◌<◌, ◌≤◌, Bool, true, false, not, ◌&&◌, List, [], ◌∷◌, ◌++◌, length, get_or, take, Some, Ok, codes, decimal, sym, refl, ap, ◌∙◌, append_assoc, append-nil, arith}
 use Rattle.std.proofs.lemmas.Fmt.{decimal_is_IsNumeral}
 use Rattle.std.proofs.lemmas.Slice.Eq.{bytes_eq-Decides}
 use Rattle.std.proofs.lemmas.Str.Parse.{digit_from_value}
@@ -14,9 +14,9 @@ use Rattle.claim_file.specs.declared.FieldName.TheVariants.{Mersenne31, Gf256}
 use Rattle.claim_file.specs.declared.words.Keyword.{Keyword}
 use Rattle.claim_file.specs.declared.words.Keyword.TheVariants.{Field, M, N, Matrix, Vector, Left, Right, Out}
 use Rattle.claim_file.specs.Lexical.{Located, bare, words_after, words, last_line}
-use Rattle.claim_file.specs.Numbers.{digit_value, spelled_after, spelled, number_of}
+use Rattle.claim_file.specs.Numbers.{digit_value, spelled_after, number_of}
 use Rattle.claim_file.specs.State.{apart}
-use Rattle.claim_file.specs.Grammar.{Claim, order, letters, is_key, value_of, next_word, keyword, field_name, number_after, numbers_until, numbers_to_end, heading, claim_said, read_spec}
+use Rattle.claim_file.specs.Grammar.{Claim, order, letters, value_of, next_word, keyword, field_name, number_after, numbers_until, numbers_to_end, heading, claim_said, read_spec}
 use Rattle.claim_file.specs.Written.{listed, name_of, line_with, written, BelowAll, Sayable, ReadsBack}
 use Rattle.claim_file.proofs.Lexing.{on_word, on_line_end, on_blank, word_done, ended_some}
 use Rattle.claim_file.proofs.Numerals.{plain_number, spelled_some}

@@ -1,4 +1,6 @@
 // Reads a claim from a text.
+#![tactic(auto)]
+
 ghost use Rattle.std.specs.Prelude.{◌≡◌, ℕ, List};
 ghost use Rattle.claim_file.specs.declared.ReadFault.TheVariants.{NoMemory};
 ghost use Rattle.std.specs.Option.{option_to_list};

@@ -1,5 +1,5 @@
 -- The words that are written for the values of a reply stand for that reply.
-use Rattle.std.proofs.Common.{◌≡◌, ℕ, ◌+◌, ◌-◌, ◌*◌, ◌<◌, List, [], ◌∷◌, map, length, take, drop, Ok, Err, vec_items, Result, sym, refl, ap, ◌∙◌, subst, le_refl, arith}
+use Rattle.std.proofs.Common.{◌≡◌, ℕ, ◌+◌, ◌-◌, ◌*◌, List, [], ◌∷◌, map, length, take, drop, Ok, Err, vec_items, Result, sym, refl, ap, ◌∙◌, subst, arith}
 use mathlib.Core.Path.{fun_ext}
 use mathlib.Core.List.{map-map}
 use Rattle.std.specs.List.{between, AllByRecursion as All}
@@ -7,13 +7,12 @@ use Rattle.std.proofs.lemmas.List.{take_all, length-map}
 use Rattle.std.proofs.lemmas.Slice.{between_to_end}
 use Rattle.field.specs.Field.{Ops}
 use Rattle.algebra.specs.Relation.{Claim as Statement}
-use Rattle.algebra.specs.Proofs.{Reply}
 use Rattle.prover.specs.Replies.{reply_cells, reply_in}
 use Rattle.prover.proofs.Replies.{map_part}
 use Rattle.claim_check.specs.declared.CheckFault.{CheckFault}
 use Rattle.claim_check.specs.declared.CheckFault.TheVariants.{Unreadable, Refused}
 use Rattle.claim_prove.specs.declared.Proof.{Proof}
-use Rattle.claim_prove.specs.Proofs.{reply_of, EachWord, Proves, ProvedBy, Written}
+use Rattle.claim_prove.specs.Proofs.{reply_of, EachWord, ProvedBy, Written}
 
 pub all_map : {P Q : ℕ → Type 0} (xs : List ℕ) → ((w : ℕ) → P w → Q w) → All P xs → All Q xs
 all_map [] h a = tt

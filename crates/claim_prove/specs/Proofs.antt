@@ -1,5 +1,5 @@
 -- What proving a claim file answers.
-use Rattle.std.specs.Prelude.{◌≡◌, ℕ, ◌<◌, ◌≤◌, List, [], map, Some, None, Ok, Err, vec_items, Result}
+use Rattle.std.specs.Prelude.{◌≡◌, ℕ, ◌<◌, ◌≤◌, [], map, Some, None, Ok, Err, vec_items, Result}
 use Rattle.std.specs.List.{AllByRecursion as All}
 use Rattle.field.specs.Field.{Ops}
 use Rattle.algebra.specs.Relation.{Claim as Statement}

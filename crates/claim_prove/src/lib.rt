@@ -1,4 +1,6 @@
 // Proves the claim that a file says.
+#![tactic(auto)]
+
 ghost use Rattle.std.specs.Prelude.{◌≡◌, ◌≤◌, [], map, length, IfOk, vec_len};
 ghost use Rattle.std.specs.List.{between};
 ghost use Rattle.prover.specs.Claims.{claimed};

@@ -1,4 +1,6 @@
 // The verifier's three equations, tested by thirteen values that an oracle answers.
+#![tactic(auto)]
+
 ghost use Rattle.std.specs.Prelude.{◌≡◌, ◌+◌, ◌*◌, [], slice_index_or};
 ghost use Rattle.field.specs.Field.{power as power_of};
 ghost use Rattle.algebra.specs.Sums.{sub};

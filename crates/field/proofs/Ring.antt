@@ -1,5 +1,5 @@
 -- Rules of a commutative ring that follow from the laws.
-use Rattle.std.proofs.Common.{◌≡◌, sym, refl, ap, ◌∙◌}
+use Rattle.std.proofs.Common.{◌≡◌, sym, ap, ◌∙◌}
 use Rattle.field.specs.Field.{Ops, Laws}
 
 module _ {K : Type 0} (f : Ops K) (laws : Laws f) where

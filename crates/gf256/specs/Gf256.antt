@@ -1,5 +1,5 @@
 -- The field of FIPS 197: a byte is a polynomial over the bits, bit i the coefficient of x ^ i, modulo x ^ 8 + x ^ 4 + x ^ 3 + x + 1.
-use Rattle.std.specs.Prelude.{ℕ, zero, suc, ◌*◌, ◌/◌, ◌%◌, min, Bool, true, false, ◌&&◌, List, [], ◌∷◌, ◌==◌, bit_xor}
+use Rattle.std.specs.Prelude.{ℕ, zero, suc, ◌*◌, ◌/◌, ◌%◌, min, Bool, true, ◌&&◌, List, [], ◌∷◌, ◌==◌, bit_xor}
 use Rattle.std.proofs.Common.{mod-lt, lit<}
 use Rattle.field.specs.Below.{Below}
 use Rattle.field.specs.Field.{Ops}

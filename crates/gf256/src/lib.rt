@@ -1,3 +1,5 @@
+#![tactic(auto)]
+
 ghost use Rattle.std.specs.Prelude.{◌≡◌, ℕ, ◌%◌, ◌<◌, min, true, Some, None, bit_xor};
 ghost use Rattle.std.proofs.Common.{ap, ◌∙◌, arith};
 ghost use Rattle.gf256.specs.Gf256.{Byte, bytes, inverts, low, shifted, times as multiplied};

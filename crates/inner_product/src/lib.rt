@@ -1,4 +1,6 @@
 // The inner-product claim of the verifier: a token that is settled or withdrawn once, and never let go.
+#![tactic(auto)]
+
 ghost use Rattle.std.specs.Prelude.{◌≡◌, false, Some, None, Ok, Err, Decides};
 ghost use Rattle.inner_product.specs.Faults.{told, refusal};
 ghost use Rattle.inner_product.specs.Settling.{settles, Settles};

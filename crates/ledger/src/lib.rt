@@ -1,4 +1,6 @@
 // A session's calls and refusals. Its ledger, and the law over all runs, are definitions: they stand in `specs/`.
+#![tactic(auto)]
+
 ghost use Rattle.ledger.specs.Law.{RunsKeepTheLaw};
 
 use field::Field;

@@ -1,5 +1,5 @@
 -- The field of the remainders by a prime.
-use Rattle.std.specs.Prelude.{◌≡◌, ℕ, zero, suc, ◌+◌, ◌-◌, ◌*◌, ◌/◌, ◌%◌, ◌<◌, ◌≤◌, true, false, ◌==◌, ◌≢◌, nat_le}
+use Rattle.std.specs.Prelude.{ℕ, zero, suc, ◌+◌, ◌-◌, ◌*◌, ◌/◌, ◌%◌, ◌<◌, ◌≤◌, true, false, ◌==◌, ◌≢◌, nat_le}
 use Rattle.std.proofs.Common.{mod-lt, lit<}
 use Rattle.field.specs.Below.{Below}
 use Rattle.field.specs.Field.{Ops}

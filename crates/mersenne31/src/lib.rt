@@ -1,3 +1,5 @@
+#![tactic(auto)]
+
 ghost use Rattle.std.specs.Prelude.{◌≡◌, ℕ, ◌+◌, ◌-◌, ◌*◌, ◌%◌, ◌<◌, Some, None};
 ghost use Rattle.std.proofs.Common.{ap, arith};
 ghost use Rattle.mersenne31.specs.Mersenne31.{Prime, Remainder, modulo, p, rem};

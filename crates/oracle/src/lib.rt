@@ -1,4 +1,6 @@
 // Polynomial oracles: what stores polynomials and answers their values at points.
+#![tactic(auto)]
+
 ghost use Rattle.std.specs.Prelude.{◌≡◌, map, Ok, Err};
 ghost use Rattle.field.specs.declared.Field.{Ghosts as FieldGhosts};
 ghost use Rattle.oracle.specs.Faults.{tells};

@@ -1,3 +1,5 @@
+#![tactic(auto)]
+
 mod division;
 mod middle;
 mod twist;

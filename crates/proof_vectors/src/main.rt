@@ -1,5 +1,7 @@
 // Proves claims made of words that follow one another, and prints the polynomials, as `tools/proofs.gp` does by
 // other means.
+#![tactic(auto)]
+
 ghost use Rattle.std.specs.Prelude.{◌≡◌, ◌+◌, ◌*◌, ◌%◌, ◌^◌};
 
 use anyhow::anyhow;

@@ -1,5 +1,5 @@
 -- A walk along the differences of two rows of elements, up to the first that is not zero.
-use Rattle.std.proofs.Common.{◌≡◌, ℕ, ◌+◌, ◌<◌, true, false, sym, refl, ◌∙◌, ap₂, below_more}
+use Rattle.std.proofs.Common.{◌≡◌, ℕ, ◌+◌, true, false, sym, ◌∙◌, ap₂, below_more}
 use Rattle.field.specs.Field.{Ops, Laws}
 use Rattle.algebra.specs.Sums.{sub}
 use Rattle.algebra.specs.Relation.{ZeroBelow}

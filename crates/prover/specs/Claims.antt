@@ -1,5 +1,5 @@
 -- The claim that is lent as slices, and which sizes and lengths it may have.
-use Rattle.std.specs.Prelude.{◌≡◌, ℕ, ◌+◌, ◌*◌, ◌≤◌, Bool, ◌&&◌, List, map, length, ◌==◌, nat_le}
+use Rattle.std.specs.Prelude.{◌≡◌, ℕ, ◌+◌, ◌*◌, ◌≤◌, Bool, ◌&&◌, List, map, ◌==◌, nat_le}
 use Rattle.algebra.specs.Relation.{Claim}
 
 -- the claim whose entries the values stand for

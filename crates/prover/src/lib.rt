@@ -1,3 +1,5 @@
+#![tactic(auto)]
+
 mod layout;
 mod proof;
 mod refusal;

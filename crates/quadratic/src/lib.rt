@@ -1,3 +1,5 @@
+#![tactic(auto)]
+
 mod cell;
 mod encoding;
 mod equation;

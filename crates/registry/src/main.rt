@@ -1,4 +1,6 @@
 // The registry's program: its built-in example, and the check and proof of claim files.
+#![tactic(auto)]
+
 mod commands;
 mod example;
 mod options;

@@ -1,4 +1,6 @@
 // The verifier's session over a polynomial oracle: its turns, calls and refusals, and whole runs.
+#![tactic(auto)]
+
 mod runs;
 mod state;
 mod verdicts;

@@ -1,9 +1,9 @@
 -- The value by a running power.
-use Rattle.std.proofs.Common.{◌≡◌, ℕ, zero, suc, ◌+◌, ◌-◌, ◌<◌, ◌≤◌, true, ◌⊎◌, List, [], ◌∷◌, length, get_or, drop, sym, refl, ap, ◌∙◌, ap₂, inl, inr, arith}
+use Rattle.std.proofs.Common.{◌≡◌, ℕ, zero, suc, ◌+◌, ◌-◌, ◌<◌, ◌≤◌, true, List, [], ◌∷◌, length, get_or, drop, sym, refl, ap, ◌∙◌, inl, inr, arith}
 use Rattle.std.proofs.lemmas.List.{at_drop_more}
 use Rattle.field.specs.Field.{Ops, Laws, power}
 use Rattle.field.proofs.Ring as R
-use Rattle.field.proofs.Solve.{ring, Form, ◌⊕◌, ◌⊗◌, nul, v0, v1, v2, v3}
+use Rattle.field.proofs.Solve.{ring, ◌⊕◌, ◌⊗◌, nul, v0, v1, v2, v3}
 use Rattle.algebra.specs.Polynomials.{value}
 use Rattle.algebra.proofs.Polynomials.{value_cons}
 use Rattle.algebra.proofs.Values.{power_add}

@@ -1,7 +1,6 @@
 -- Lists of terms, each with the number of coefficients that it spreads to.
-use Rattle.std.specs.Prelude.{◌≡◌, ℕ, zero, suc, ◌+◌, ◌<◌, true, false, ◌&&◌, List, [], ◌∷◌, ◌++◌, length, slice_index_or, refl}
+use Rattle.std.specs.Prelude.{◌≡◌, ℕ, zero, suc, ◌+◌, ◌<◌, true, ◌&&◌, List, [], ◌∷◌, ◌++◌, length, slice_index_or, refl}
 use Rattle.std.proofs.Common.{ap, ap₂, ◌∙◌, arith}
-use Rattle.std.proofs.lemmas.Bool.Decides.{nat_tests}
 use Rattle.field.specs.Field.{Ops, Laws}
 use Rattle.oracle.specs.Standing.{needed}
 use Rattle.sparse_oracle.specs.Terms.{Spells, all_climb, climbs, coefficients_of, nonzero, spread, spreads}

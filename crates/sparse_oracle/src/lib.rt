@@ -1,4 +1,6 @@
 // The sparse oracle: one cell for each coefficient other than zero.
+#![tactic(auto)]
+
 mod loops;
 mod store;
 mod term;

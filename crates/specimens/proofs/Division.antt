@@ -1,7 +1,7 @@
 -- The division of two rows by X^4 - 10, coefficient by coefficient.
 use mathlib.Core.Path.{◌≡◌, refl, sym, ap, ap₂, ◌∙◌}
 use mathlib.Core.List.{List, [], ◌∷◌}
-use Prim.Native.Nat.{ℕ, zero, suc, ◌+◌, ◌<◌, ◌≤◌}
+use Prim.Native.Nat.{ℕ, zero, suc, ◌+◌, ◌<◌}
 use native.Mathlib.Omega.{arith}
 use Rattle.field.proofs.Numbers.{below_path}
 use Rattle.field.proofs.Ring.{mul_nil}

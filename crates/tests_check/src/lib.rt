@@ -1,3 +1,5 @@
+#![tactic(auto)]
+
 // Examples: the direct check at the edges of its sizes, words of a field, polynomials, systems, and texts.
 #[cfg(test)]
 mod edges;

@@ -19,11 +19,11 @@ fn proves_two_rows(rt: HostRuntime) -> Result<(), Fail> {
         free2: 80,
     };
     let proof = prove_claim(heap, &claim, at)?;
-    assert!(rt; proof.r.as_slice() == &[15, 1, 2, 13]);
-    assert!(rt; proof.q.as_slice() == &[1, 0, 0, 1]);
+    assert!(rt; proof.r.as_slice() == [15, 1, 2, 13].as_slice());
+    assert!(rt; proof.q.as_slice() == [1, 0, 0, 1].as_slice());
     assert_eq!(rt; proof.h1.len(), 7);
     assert_eq!(rt; proof.h1.get(3).copied(), Some(70));
-    assert!(rt; proof.h2.as_slice() == &[80]);
+    assert!(rt; proof.h2.as_slice() == [80].as_slice());
     Ok(())
 }
 

@@ -1,3 +1,5 @@
+#![tactic(auto)]
+
 // Tests of `claim_file`: each fault with its line, and what is read of texts that have none.
 #[cfg(test)]
 mod tests {

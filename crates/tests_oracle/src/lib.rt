@@ -1,3 +1,5 @@
+#![tactic(auto)]
+
 // Examples: both makes of oracle at the edges of their limits, and the values that they answer.
 #[cfg(test)]
 mod asks;

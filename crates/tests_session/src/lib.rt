@@ -1,3 +1,5 @@
+#![tactic(auto)]
+
 // Examples: whole runs of a session in both fields on both makes of oracle, every refusal, and the edges of the sizes.
 #[cfg(test)]
 mod claims;

@@ -1,4 +1,6 @@
 // The theorems of acceptance, at every field and at each of the two.
+#![tactic(auto)]
+
 ghost use Rattle.theorems.specs.Acceptance.{Acceptance};
 ghost use Rattle.mersenne31.specs.Mersenne31.{modulo};
 ghost use Rattle.gf256.specs.Gf256.{bytes};

@@ -1,4 +1,6 @@
 // How the inner-product token is used: each claim that is stated is settled or withdrawn, once.
+#![tactic(auto)]
+
 ghost use Rattle.std.specs.Prelude.{◌≡◌, false, if◌then◌else◌, Some, None, Ok, Err};
 ghost use Rattle.inner_product.specs.Faults.{told, refusal};
 ghost use Rattle.inner_product.specs.Settling.{settles};

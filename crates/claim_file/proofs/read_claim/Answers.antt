@@ -1,6 +1,5 @@
 use Rattle.std.proofs.Common.{◌∙◌}
 use Rattle.std.proofs.lemmas.Result.{err_from_is_err_and}
-use Rattle.claim_file.specs.Grammar.{order}
 use Rattle.claim_file.proofs.Claims.{at_fault, at_claim, break_1, break_2, break_3, break_4, break_5, break_6, claimed}
 use Rattle.claim_file.proofs.read_claim.Goals as goal
 

@@ -1,9 +1,8 @@
-use Rattle.std.proofs.Common.{◌≡◌, ℕ, ◌+◌, ◌*◌, List, [], map, length, take, None, vec_items, sym, ap, ◌∙◌, subst, arith}
+use Rattle.std.proofs.Common.{◌≡◌, ℕ, List, [], map, length, take, None, vec_items, sym, ap, ◌∙◌, subst, arith}
 use Rattle.std.specs.List.{between}
 use Rattle.std.proofs.lemmas.List.{with_items_is}
 use Rattle.algebra.specs.Proofs.{Reply}
 use Rattle.prover.specs.Claims.{claimed}
-use Rattle.prover.specs.Layouts.{layout_of}
 use Rattle.prover.specs.Replies.{reply_cells, reply_in, proof_refusal, Replied}
 use Rattle.prover.specs.declared.layout.Layout.{Layout}
 use Rattle.claim_prove.proofs.Spellings.{same_reply, written}

@@ -1,8 +1,5 @@
-use Rattle.std.proofs.Common.{◌≡◌, [], vec_items, refl, ap, subst}
-use Rattle.algebra.specs.Relation.{Claim as Statement}
-use Rattle.prover.specs.Claims.{claimed}
+use Rattle.std.proofs.Common.{[], refl, ap}
 use Rattle.claim_check.proofs.Lists.{words_stand, same_claim}
-use Rattle.claim_prove.specs.Proofs.{ProvedBy, Written}
 use Rattle.claim_prove.proofs.prove_words.Goals as goal
 
 pub returns : goal.returns

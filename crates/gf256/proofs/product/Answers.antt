@@ -1,6 +1,6 @@
 use Rattle.std.proofs.Common.{◌≡◌, suc, ◌+◌, ◌-◌, ◌*◌, ◌/◌, ◌%◌, sym, ap, ◌∙◌, mod-lt, arith, lit<}
 use lib.Bits.{bit_xor, xor_zero_r, xor_assoc}
-use Rattle.gf256.specs.Gf256.{product, times}
+use Rattle.gf256.specs.Gf256.{product}
 use Rattle.gf256.specs.Times.{bit_lt}
 use Rattle.gf256.proofs.product.Goals as goal
 

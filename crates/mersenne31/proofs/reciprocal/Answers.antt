@@ -1,4 +1,4 @@
-use Rattle.std.proofs.Common.{◌≡◌, ◌*◌, ◌%◌, ap, ◌∙◌, mod-lt, arith}
+use Rattle.std.proofs.Common.{◌*◌, ◌%◌, ap, ◌∙◌, mod-lt, arith}
 use Rattle.mersenne31.specs.Mersenne31.{p}
 use Rattle.mersenne31.specs.Inverse.{turned}
 use Rattle.mersenne31.specs.Trial.{prime}

@@ -1,4 +1,4 @@
-use Rattle.std.proofs.Common.{sym, refl, ap, ◌∙◌}
+use Rattle.std.proofs.Common.{sym, ap}
 use Rattle.claim_check.specs.Words.{read_text}
 use Rattle.claim_check.proofs.words.read_fault.Goals as goal
 

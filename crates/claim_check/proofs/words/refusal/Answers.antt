@@ -1,4 +1,4 @@
-use Rattle.std.proofs.Common.{sym, refl, ap}
+use Rattle.std.proofs.Common.{sym, ap}
 use Rattle.claim_check.specs.Words.{refusal_text}
 use Rattle.claim_check.proofs.words.refusal.Goals as goal
 

@@ -1,4 +1,4 @@
-use Rattle.std.proofs.Common.{◌≡◌, ℕ, ◌+◌, ◌*◌, ◌<◌, ◌≤◌, length, arith}
+use Rattle.std.proofs.Common.{◌≡◌, ◌+◌, ◌*◌, ◌<◌, ◌≤◌, length, arith}
 use Rattle.polynomial.proofs.Fills.{filled_more, filled_all, all_tidy}
 use Rattle.polynomial.proofs.middle.fill_middle.Goals as goal
 

@@ -1,4 +1,4 @@
-use Rattle.std.proofs.Common.{◌≡◌, ℕ, suc, ◌+◌, ◌-◌, ◌<◌, ◌≤◌, map, length, sym, ap, ◌∙◌, subst, ap₂, arith}
+use Rattle.std.proofs.Common.{◌≡◌, ℕ, suc, ◌-◌, map, sym, ap, ◌∙◌, subst, ap₂, arith}
 use Rattle.algebra.specs.Sums.{sum}
 use Rattle.algebra.specs.Polynomials.{coeff}
 use Rattle.algebra.proofs.Sums.{sum_more, sum_pass}

@@ -1,5 +1,4 @@
-use Rattle.std.proofs.Common.{◌≡◌, ℕ, ◌+◌, ◌*◌, ◌<◌, ◌≤◌, map, length, refl, ap, ◌∙◌, le_refl, arith}
-use Rattle.algebra.specs.Polynomials.{coeff}
+use Rattle.std.proofs.Common.{◌≡◌, ◌+◌, ◌*◌, ◌<◌, ◌≤◌, length, ap, ◌∙◌, le_refl, arith}
 use Rattle.polynomial.specs.Twist.{untwisted}
 use Rattle.polynomial.proofs.Coefficients.{coeff_read, coeff_set_other}
 use Rattle.polynomial.proofs.Fills.{filled_more, filled_all, all_tidy}

@@ -1,4 +1,4 @@
-use Rattle.std.proofs.Common.{◌≡◌, ℕ, ◌+◌, ◌*◌, ◌<◌, ◌≤◌, [], map, length, take, set, sym, refl, ap, ◌∙◌, le_refl, arith}
+use Rattle.std.proofs.Common.{◌≡◌, ℕ, ◌+◌, ◌*◌, ◌<◌, [], map, length, take, ap, ◌∙◌, arith}
 use Rattle.std.proofs.lemmas.List.{length-set, take-set-le, drop-set-lt}
 use Rattle.algebra.specs.Polynomials.{coeff, middle}
 use Rattle.algebra.specs.Relation.{wires}

@@ -1,4 +1,4 @@
-use Rattle.std.proofs.Common.{◌≡◌, ℕ, ◌+◌, ◌-◌, ◌<◌, [], map, length, set, sym, ap, ◌∙◌, zero-add, arith}
+use Rattle.std.proofs.Common.{◌+◌, ◌-◌, ◌<◌, [], map, length, set, sym, ap, ◌∙◌, zero-add, arith}
 use Rattle.algebra.specs.Polynomials.{coeff, middle}
 use Rattle.algebra.specs.Proofs.{left_scaled}
 use Rattle.prover.specs.Claims.{claimed}

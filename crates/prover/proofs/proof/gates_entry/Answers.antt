@@ -1,4 +1,4 @@
-use Rattle.std.proofs.Common.{◌≡◌, ℕ, suc, ◌+◌, ◌-◌, [], map, sym, ap, ◌∙◌, arith}
+use Rattle.std.proofs.Common.{◌≡◌, ℕ, suc, ◌-◌, [], map, sym, ap, ◌∙◌, arith}
 use Rattle.algebra.specs.Sums.{sum}
 use Rattle.algebra.specs.Polynomials.{coeff}
 use Rattle.algebra.specs.Proofs.{left_scaled}

@@ -1,7 +1,6 @@
-use Rattle.std.proofs.Common.{◌≡◌, ◌-◌, ◌*◌, [], map}
+use Rattle.std.proofs.Common.{◌≡◌, ◌-◌, [], map}
 use Rattle.algebra.specs.Sums.{sum}
 use Rattle.algebra.specs.Polynomials.{coeff}
-use Rattle.algebra.specs.Relation.{wires}
 use Rattle.algebra.specs.Proofs.{left_scaled}
 use Rattle.algebra.proofs.Polynomials.{middle_term}
 use Rattle.prover.specs.Claims.{claimed}

@@ -1,4 +1,4 @@
-use Rattle.std.proofs.Common.{◌≡◌, true, false, ◌||◌, sym, refl, ap, ◌∙◌, ap₂, rules, le-leb}
+use Rattle.std.proofs.Common.{◌≡◌, true, ◌||◌, sym, refl, ap, ap₂, rules, le-leb}
 use borrow.Author.Tests.{lt-leb}
 use Rattle.prover.proofs.Replies.{chosen}
 use Rattle.prover.specs.Replies.{reply_cells}

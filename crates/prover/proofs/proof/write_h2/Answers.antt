@@ -1,4 +1,4 @@
-use Rattle.std.proofs.Common.{◌≡◌, ◌+◌, ◌-◌, ◌*◌, ◌≤◌, [], map, length, arith}
+use Rattle.std.proofs.Common.{◌≡◌, ◌-◌, [], map, length, arith}
 use Rattle.algebra.specs.Polynomials.{coeff}
 use Rattle.algebra.specs.Proofs.{left_scaled}
 use Rattle.polynomial.specs.Cells.{Cells}

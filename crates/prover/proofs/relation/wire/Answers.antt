@@ -1,4 +1,4 @@
-use Rattle.std.proofs.Common.{◌+◌, ◌-◌, ◌*◌, [], sym, ◌∙◌, arith}
+use Rattle.std.proofs.Common.{◌-◌, ◌*◌, [], sym, ◌∙◌, arith}
 use Rattle.algebra.proofs.Relation.{wires_left, wires_right, wires_out}
 use Rattle.polynomial.proofs.Coefficients.{coeff_read}
 use Rattle.prover.specs.Claims.{claimed}

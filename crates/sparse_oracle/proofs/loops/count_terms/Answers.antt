@@ -1,4 +1,4 @@
-use Rattle.std.proofs.Common.{◌≡◌, ℕ, ◌+◌, cond, sym, ap, ◌∙◌, arith}
+use Rattle.std.proofs.Common.{ℕ, cond, sym, ap, ◌∙◌, arith}
 use Rattle.std.proofs.lemmas.List.{at_drop_all}
 use Rattle.sparse_oracle.specs.Terms.{coefficients_of, nonzero}
 use Rattle.sparse_oracle.specs.Spelling.{nonzero_step}

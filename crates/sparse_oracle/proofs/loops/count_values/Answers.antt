@@ -1,4 +1,4 @@
-use Rattle.std.proofs.Common.{◌≡◌, ℕ, ◌+◌, cond, map, ap, arith}
+use Rattle.std.proofs.Common.{ℕ, cond, map, ap, arith}
 use Rattle.std.proofs.lemmas.List.{at_drop_all, length-map}
 use Rattle.sparse_oracle.specs.Terms.{nonzero}
 use Rattle.sparse_oracle.specs.Spelling.{nonzero_step}

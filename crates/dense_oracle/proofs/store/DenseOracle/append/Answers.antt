@@ -1,4 +1,4 @@
-use Rattle.std.proofs.Common.{◌≡◌, ◌+◌, ◌≤◌, List, [], ◌∷◌, ◌++◌, map, length, take, vec_items, vec_len, sym, refl, ap, ◌∙◌, arith, length-set}
+use Rattle.std.proofs.Common.{◌≡◌, ◌≤◌, List, map, length, vec_items, vec_len, refl, ap, ◌∙◌, arith, length-set}
 use Rattle.std.proofs.lemmas.List.{map_push, with_items_is}
 use Rattle.oracle.specs.Standing.{Standing}
 use Rattle.oracle.proofs.Chains as chains

@@ -1,4 +1,4 @@
-use Rattle.std.proofs.Common.{◌≡◌, ◌+◌, ◌-◌, map, get_or, take, drop, sym, ap, ◌∙◌, arith}
+use Rattle.std.proofs.Common.{◌≡◌, ◌+◌, ◌-◌, get_or, sym, arith}
 use Rattle.oracle.specs.Tables.{entry_of}
 use Rattle.dense_oracle.specs.Stands.{entry_stored, list_at}
 use Rattle.dense_oracle.proofs.store.DenseOracle.list.Goals as goal

@@ -1,5 +1,4 @@
-use Rattle.std.proofs.Common.{◌≡◌, ◌-◌, sym, ap, ◌∙◌, arith}
-use Rattle.sparse_oracle.specs.Terms.{coefficients_of, nonzero}
+use Rattle.std.proofs.Common.{◌≡◌, ◌-◌, sym, ◌∙◌, arith}
 use Rattle.sparse_oracle.specs.Stands.{stored, used, used_filled}
 use Rattle.sparse_oracle.proofs.store.SparseOracle.used.Goals as goal
 
