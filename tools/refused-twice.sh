@@ -8,14 +8,11 @@ crates='field algebra polynomial inner_product token_use'
 work=$(mktemp -d)
 trap 'rm -rf "$work"' EXIT
 
-mkdir -p "$work/crates" "$work/target"
+# With what earlier checks kept in out/, the crates below are not proved again.
+mkdir -p "$work/crates"
 for c in $crates; do
     cp -r "crates/$c" "$work/crates/"
     grep "^$c:" crates.txt >>"$work/crates.txt"
-done
-# Crates that were proved before are not proved again.
-for d in rlib stamp; do
-    [ ! -d "target/$d" ] || cp -r "target/$d" "$work/target/"
 done
 
 line() { sed -n "s/^$1: //p" "$edit"; }
@@ -24,8 +21,8 @@ file=$work/$(line file)
 OLD=$(line old) NEW=$(line new) awk '$0 == ENVIRON["OLD"] { $0 = ENVIRON["NEW"] } { print }' "$file" >"$work/edited"
 mv "$work/edited" "$file"
 
-cd "$work"
-if rt check token_use >"$work/said" 2>&1; then
+cd "$work/crates/token_use"
+if rt check >"$work/said" 2>&1; then
     echo "settle-twice: NOT refused"
     exit 1
 fi

@@ -15,7 +15,7 @@ use gf256::Gf256;
 use mersenne31::Mersenne31;
 use prover::{Finding, Refusal};
 use std::alloc::{AllocError, Global};
-pub use words::{fault_line, finding, verdict};
+pub use words::{check_fault, finding, verdict};
 
 // Why a text is not checked: it says no claim, or one that is refused.
 #[derive(Clone, Copy, PartialEq, Eq, Debug)]

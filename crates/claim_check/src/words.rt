@@ -17,7 +17,7 @@ pub fn verdict(heap: Global, outcome: Result<Finding, CheckFault>) -> Result<Str
         Ok(Finding::AllHold) => format!(in heap; "true"),
         Ok(Finding::RowFails(_)) => format!(in heap; "false"),
         Ok(Finding::GateFails(_)) => format!(in heap; "false"),
-        Err(fault) => fault_line(heap, fault),
+        Err(fault) => check_fault(heap, fault),
     }
 }
 
@@ -51,7 +51,7 @@ fn gate_fails(heap: Global, i: usize) -> Result<String, AllocError>
 }
 
 // A fault with its number, and its line where it has one.
-pub fn fault_line(heap: Global, fault: CheckFault) -> Result<String, AllocError>
+pub fn check_fault(heap: Global, fault: CheckFault) -> Result<String, AllocError>
     ensures { IfOk result (λ s. string_bytes s ≡ fault_text (told fault) (fault_words fault)) }
 {
     match fault {

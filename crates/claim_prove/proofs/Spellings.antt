@@ -2,7 +2,7 @@
 use Rattle.std.proofs.Common.{◌≡◌, ℕ, ◌+◌, ◌-◌, ◌*◌, List, [], ◌∷◌, map, length, take, drop, Ok, Err, vec_items, Result, sym, refl, ap, ◌∙◌, subst, arith}
 use mathlib.Core.Path.{fun_ext}
 use mathlib.Core.List.{map-map}
-use Rattle.std.specs.List.{between, AllByRecursion as All}
+use Rattle.std.specs.List.{between, AllByRecursion}
 use Rattle.std.proofs.lemmas.List.{take_all, length-map}
 use Rattle.std.proofs.lemmas.Slice.{between_to_end}
 use Rattle.field.specs.Field.{Ops}
@@ -14,7 +14,7 @@ use Rattle.claim_check.specs.declared.CheckFault.TheVariants.{Unreadable, Refuse
 use Rattle.claim_prove.specs.declared.Proof.{Proof}
 use Rattle.claim_prove.specs.Proofs.{reply_of, EachWord, ProvedBy, Written}
 
-pub all_map : {P Q : ℕ → Type 0} (xs : List ℕ) → ((w : ℕ) → P w → Q w) → All P xs → All Q xs
+pub all_map : {P Q : ℕ → Type 0} (xs : List ℕ) → ((w : ℕ) → P w → Q w) → AllByRecursion P xs → AllByRecursion Q xs
 all_map [] h a = tt
 all_map (x ∷ xs) h (p, a) = (h x p, all_map xs h a)
 
@@ -41,10 +41,10 @@ module _ {X K : Type 0} (mean : X → K) (element : ℕ → X) (spelling : X →
   pub stand_again : (ws : List ℕ) (xs : List X) → ws ≡ map spelling xs → map stands ws ≡ map mean xs
   stand_again ws xs e = ap (map stands) e ∙ map-map stands spelling xs ∙ ap (λ g. map g xs) (fun_ext law)
 
-  pub all_written : (ws : List ℕ) (xs : List X) → ws ≡ map spelling xs → All (Written spelling) ws
-  all_written ws xs e = subst (All (Written spelling)) (sym e) (each xs)
+  pub all_written : (ws : List ℕ) (xs : List X) → ws ≡ map spelling xs → AllByRecursion (Written spelling) ws
+  all_written ws xs e = subst (AllByRecursion (Written spelling)) (sym e) (each xs)
     where
-      each : (xs : List X) → All (Written spelling) (map spelling xs)
+      each : (xs : List X) → AllByRecursion (Written spelling) (map spelling xs)
       each [] = tt
       each (x ∷ xs) = ((x, refl), each xs)
 

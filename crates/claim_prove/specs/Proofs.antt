@@ -1,6 +1,6 @@
 -- What proving a claim file answers.
 use Rattle.std.specs.Prelude.{◌≡◌, ℕ, ◌<◌, ◌≤◌, [], map, Some, None, Ok, Err, vec_items, Result}
-use Rattle.std.specs.List.{AllByRecursion as All}
+use Rattle.std.specs.List.{AllByRecursion}
 use Rattle.field.specs.Field.{Ops}
 use Rattle.algebra.specs.Relation.{Claim as Statement}
 use Rattle.algebra.specs.Proofs.{Reply}
@@ -30,10 +30,10 @@ reply_of stands p = record {
 
 -- P holds of every word of a proof
 pub record EachWord (P : ℕ → Type 0) (p : Proof) : Type 0 where
-  pub in_r : All P (vec_items p.r)
-  pub in_q : All P (vec_items p.q)
-  pub in_h1 : All P (vec_items p.h1)
-  pub in_h2 : All P (vec_items p.h2)
+  pub in_r : AllByRecursion P (vec_items p.r)
+  pub in_q : AllByRecursion P (vec_items p.q)
+  pub in_h1 : AllByRecursion P (vec_items p.h1)
+  pub in_h2 : AllByRecursion P (vec_items p.h2)
 
 -- the words, of which P holds, stand for an honest reply to a claim that is not refused, with v1 and v2 where it is free
 pub record Proves {K : Type 0} (f : Ops K) (stands : ℕ → K) (P : ℕ → Type 0) (s : Statement K) (α β v1 v2 : K) (p : Proof) : Type 0 where

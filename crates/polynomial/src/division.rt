@@ -1,5 +1,5 @@
 ghost use Rattle.std.specs.Prelude.{◌≡◌, ℕ, ◌+◌, ◌<◌, map, length, Ok, Err, Decides};
-ghost use Rattle.std.specs.List.{AllByRecursion as All};
+ghost use Rattle.std.specs.List.{AllByRecursion};
 ghost use Rattle.algebra.specs.Polynomials.{coeff};
 ghost use Rattle.polynomial.specs.Cells.{Divided, carried};
 ghost use Rattle.polynomial.specs.Lengths.{RowsFit};
@@ -68,7 +68,7 @@ fn fill_quotient<F: Field>(p: &[F], n: usize, alpha: F, quotient: &mut [F])
     requires { (length quotient.old + n ≡ length p.now) × (0 < n) }
     ensures steps { (k : ℕ) → coeff F.Field.ops (map F.Field.mean quotient.new) k
         ≡ carried F.Field.ops (map F.Field.mean p.now) (F.Field.mean alpha) (map F.Field.mean quotient.new) (k + n) }
-    ensures tidy { All F.Field.reduced quotient.new }
+    ensures tidy { AllByRecursion F.Field.reduced quotient.new }
 {
     for k in (0..quotient.len()).rev() {
         quotient[k] = carry(p, alpha, quotient, k + n);
@@ -79,7 +79,7 @@ fn fill_quotient<F: Field>(p: &[F], n: usize, alpha: F, quotient: &mut [F])
 fn fill_remainder<F: Field>(p: &[F], alpha: F, quotient: &[F], remainder: &mut [F])
     ensures rests { (k : ℕ) → k < length remainder.new → coeff F.Field.ops (map F.Field.mean remainder.new) k
         ≡ carried F.Field.ops (map F.Field.mean p.now) (F.Field.mean alpha) (map F.Field.mean quotient.now) k }
-    ensures tidy { All F.Field.reduced remainder.new }
+    ensures tidy { AllByRecursion F.Field.reduced remainder.new }
 {
     for k in 0..remainder.len() {
         remainder[k] = carry(p, alpha, quotient, k);

@@ -3,7 +3,7 @@ use Rattle.std.proofs.Common.{◌≡◌, ℕ, zero, suc, ◌+◌, ◌-◌, ◌*�
 use native.Mathlib.Decide.{dec_lt}
 use native.Mathlib.Nat.{mul-mod_left}
 use borrow.Rule.Slice.PartMut.{put_mid}
-use Rattle.std.specs.List.{between, AllByRecursion as All}
+use Rattle.std.specs.List.{between, AllByRecursion}
 use Rattle.std.proofs.lemmas.List.{length-map, take-map, drop-map, get_or-take, get_or-drop, take-take, take-append-drop, drop_at, drop-drop, length-take-le, length-drop}
 use Rattle.std.proofs.lemmas.Slice.{between_is, between-put_mid, take-put_mid, take-put_mid_below, drop-put_mid}
 use Rattle.std.proofs.lemmas.List.FromFn.{get_or-map-range_with_len}
@@ -106,7 +106,7 @@ module _ {X K : Type 0} (f : Ops K) (laws : Laws f) (mean : X → K) (reduced : 
         divides = divides f laws (map mean p) (map mean (between width rows is)) (map mean (take width is)) width v some front
             (subst (λ (l : List X). (k : ℕ) → coeff f (map mean l) k ≡ carried f (map mean p) v (map mean l) (k + width)) (sym same) steps.steps)
             (λ k l. coeff_front mean f width k is l ∙ rests.means k l ∙ ap (λ l. carried f (map mean p) v (map mean l) k) (quotient_once ∙ sym same));
-        tidy = subst (All reduced) (sym (split_take width rows is fits)) (All-append reduced (take width is) (between width rows is) rests.tidy (subst (All reduced) (sym same) steps.tidy));
+        tidy = subst (AllByRecursion reduced) (sym (split_take width rows is fits)) (All-append reduced (take width is) (between width rows is) rests.tidy (subst (AllByRecursion reduced) (sym same) steps.tidy));
         beyond = same_drop width rows is once fits beyond ∙ drop-put_mid width (rows - width) was q rows (omega arith) (omega arith) long;
       }
 
@@ -225,7 +225,7 @@ module _ {X K : Type 0} (f : Ops K) (mean : X → K) (reduced : X → Type 0) (m
           h1_long = long_part rows end two up_to ∙ (omega arith);
           h2_long = length-map h2 mean ∙ long ∙ (omega arith);
         });
-        tidy = subst (All reduced) (sym front) (All-append reduced (take end two) h2
-            (subst (All reduced) (sym (split_take rows end two (omega arith))) (All-append reduced (take rows two) h1 (subst (All reduced) (sym keeps.before) division.tidy) first.tidy)) second.tidy);
+        tidy = subst (AllByRecursion reduced) (sym front) (All-append reduced (take end two) h2
+            (subst (AllByRecursion reduced) (sym (split_take rows end two (omega arith))) (All-append reduced (take rows two) h1 (subst (AllByRecursion reduced) (sym keeps.before) division.tidy) first.tidy)) second.tidy);
         beyond = drop-put_mid end (total - end) two h2 total (omega arith) up_to long ∙ same_drop end total two one (omega arith) keeps.beyond ∙ same_drop rows total one was (omega arith) division.beyond;
       }

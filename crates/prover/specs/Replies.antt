@@ -1,6 +1,6 @@
 -- What a prover writes into a buffer, and when it refuses.
 use Rattle.std.specs.Prelude.{◌≡◌, ℕ, ◌+◌, ◌-◌, ◌*◌, ◌<◌, ◌≤◌, cond, ◌||◌, List, map, length, take, drop, Some, None, Option, nat_le}
-use Rattle.std.specs.List.{between, AllByRecursion as All}
+use Rattle.std.specs.List.{between, AllByRecursion}
 use Rattle.field.specs.Field.{Ops}
 use Rattle.algebra.specs.Polynomials.{coeff, Divides}
 use Rattle.algebra.specs.Relation.{Claim, width}
@@ -52,19 +52,19 @@ pub record Replied {K : Type 0} (f : Ops K) (s : Claim K) (p : Reply K) (α β v
 -- the first cells stand for such a reply and are reduced, and the others are as they were
 pub record Proved {X K : Type 0} (f : Ops K) (mean : X → K) (reduced : X → Type 0) (s : Claim K) (α β v1 v2 : K) (was is : List X) : Type 0 where
   pub replied : Replied f s (reply_in s.m s.n (map mean (take (reply_cells s.m s.n) is))) α β v1 v2
-  pub tidy : All reduced (take (reply_cells s.m s.n) is)
+  pub tidy : AllByRecursion reduced (take (reply_cells s.m s.n) is)
   pub beyond : drop (reply_cells s.m s.n) is ≡ drop (reply_cells s.m s.n) was
 
 -- the cells stand for an h that solves the middle product of a and b, with v at d, and are reduced
 pub record Solution {X K : Type 0} (f : Ops K) (mean : X → K) (reduced : X → Type 0) (d : ℕ) (v : K) (a b : ℕ → K) (cells : List X) : Type 0 where
   pub solves : Solves f d (coeff f (map mean cells)) a b
   pub free : coeff f (map mean cells) d ≡ v
-  pub tidy : All reduced cells
+  pub tidy : AllByRecursion reduced cells
 
 -- the first cells stand for remainder and quotient of p by X^width - v and are reduced, and those from rows on are as they were
 pub record Division {X K : Type 0} (f : Ops K) (mean : X → K) (reduced : X → Type 0) (p : List X) (v : K) (width rows : ℕ) (was is : List X) : Type 0 where
   pub divides : Divides f (map mean p) width v (map mean (between width rows is)) (map mean (take width is))
-  pub tidy : All reduced (take rows is)
+  pub tidy : AllByRecursion reduced (take rows is)
   pub beyond : drop rows is ≡ drop rows was
 
 -- the cells from rows on, before end, are changed, and no others
@@ -75,4 +75,4 @@ pub record Between (rows end : ℕ) {X : Type 0} (was is : List X) : Type 0 wher
 -- the first i cells stand for t 0, t 1, .., and are reduced
 pub record Filled {X K : Type 0} (f : Ops K) (mean : X → K) (reduced : X → Type 0) (t : ℕ → K) (xs : List X) (i : ℕ) : Type 0 where
   pub means : (k : ℕ) → k < i → coeff f (map mean xs) k ≡ t k
-  pub tidy : All reduced (take i xs)
+  pub tidy : AllByRecursion reduced (take i xs)

@@ -1,7 +1,7 @@
 // The commands that take arguments.
 use crate::options::{element_or, well_formed};
 use anyhow::anyhow;
-use claim_check::{CheckFault, check_text, fault_line, finding, verdict};
+use claim_check::{CheckFault, check_fault, check_text, finding, verdict};
 use claim_file::ClaimFile;
 use claim_prove::{Challenges, prove_claim};
 use prover::Finding;
@@ -98,7 +98,7 @@ fn print_polynomial(rt: &HostRuntime, name: &str, words: &[u32]) -> anyhow::Resu
 }
 
 fn refuse(rt: &HostRuntime, fault: CheckFault) -> anyhow::Result<Ending> {
-    rt.println(fault_line(rt.alloc(), fault)?)?;
+    rt.println(check_fault(rt.alloc(), fault)?)?;
     Ok(Ending::Refused)
 }
 

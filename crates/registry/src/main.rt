@@ -29,30 +29,15 @@ fn run(rt: &HostRuntime) -> anyhow::Result<Ending> {
     if words.len() <= 1 {
         return example::play(rt);
     }
-    let rest = &words[2..];
-    match words[1].as_str() {
-        "check" => check(rt, rest),
-        "prove" => prove(rt, rest),
-        "sessions" if rest.is_empty() => example::play_sessions(rt),
-        "--help" if rest.is_empty() => commands::help(rt),
-        "--version" if rest.is_empty() => commands::version(rt),
+    match (words[1].as_str(), &words[2..]) {
+        ("prove", [path, rest @ ..]) => commands::prove(rt, path.as_str(), rest),
+        ("prove", []) => Err(anyhow!("prove: no file is named; see registry --help")),
+        (_, [_, _, ..]) => Err(anyhow!("too many arguments; see registry --help")),
+        ("check", [path]) => commands::check(rt, path.as_str()),
+        ("check", []) => Err(anyhow!("check: no file is named; see registry --help")),
+        ("sessions", []) => example::play_sessions(rt),
+        ("--help", []) => commands::help(rt),
+        ("--version", []) => commands::version(rt),
         _ => Err(anyhow!("no such command; see registry --help")),
-    }
-}
-
-// `check FILE`.
-fn check(rt: &HostRuntime, words: &[String]) -> anyhow::Result<Ending> {
-    match words {
-        [path] => commands::check(rt, path.as_str()),
-        [] => Err(anyhow!("check: no file is named; see registry --help")),
-        _ => Err(anyhow!("check: too many arguments; see registry --help")),
-    }
-}
-
-// `prove FILE` and its options.
-fn prove(rt: &HostRuntime, words: &[String]) -> anyhow::Result<Ending> {
-    match words {
-        [path, rest @ ..] => commands::prove(rt, path.as_str(), rest),
-        [] => Err(anyhow!("prove: no file is named; see registry --help")),
     }
 }

@@ -10,11 +10,11 @@ use quadratic::Encoding;
 pub const WIDTH: usize = 3 * PAIRS.len() + 1;
 
 // Where q ends among the cells of a proof, where h1 ends, and all cells.
-const Q_END: usize = (DIGEST.len() + 2 * PAIRS.len()) * WIDTH;
+const AREA: usize = (DIGEST.len() + 2 * PAIRS.len()) * WIDTH;
 
-const H1_END: usize = Q_END + 6 * PAIRS.len() + 1;
+const TWIST: usize = AREA + 6 * PAIRS.len() + 1;
 
-pub const CELLS: usize = Q_END + 8 * PAIRS.len();
+pub const CELLS: usize = AREA + 8 * PAIRS.len();
 
 // The challenges of the example; the free coefficients are zero.
 pub const ALPHA: Gf256 = Gf256(0x1d);
@@ -76,9 +76,9 @@ pub fn with_proof<'a>(claim: &'a Encoding<Gf256>, cells: &'a [Gf256; CELLS]) -> 
         right: &claim.right,
         out: &claim.out,
         r: &cells[0..WIDTH],
-        q: &cells[WIDTH..Q_END],
-        h1: &cells[Q_END..H1_END],
-        h2: &cells[H1_END..CELLS],
+        q: &cells[WIDTH..AREA],
+        h1: &cells[AREA..TWIST],
+        h2: &cells[TWIST..CELLS],
     }
 }
 

@@ -1,6 +1,6 @@
 use Rattle.std.proofs.Common.{◌≡◌, ℕ, ◌+◌, ◌-◌, ◌<◌, ◌≤◌, List, ◌∷◌, map, length, drop, set, sym, ap, ◌∙◌, subst, ap₂, le_refl, arith}
 use native.Mathlib.Decide.{dec_lt}
-use Rattle.std.specs.List.{AllByRecursion as All}
+use Rattle.std.specs.List.{AllByRecursion}
 use Rattle.std.proofs.lemmas.List.{drop_all, drop-set}
 use Rattle.field.specs.Field.{Ops, Laws}
 use Rattle.field.proofs.Ring.{mul_nil}
@@ -25,7 +25,7 @@ loop-k-init g c =
     let q = c.args.quotient.now in (
       λ i h. coeff_beyond f.ops f.mean q i h
           ∙ sym (none_carried f.ops f.mean c.args.p.now q (f.mean c.args.alpha) g.met.F.Field.lawful (i + c.args.n) (omega arith) (omega arith)),
-      subst (All f.reduced) (sym (drop_all (length q) q (le_refl (length q)))) tt,
+      subst (AllByRecursion f.reduced) (sym (drop_all (length q) q (le_refl (length q)))) tt,
     )
 
 pub loop-k-preserved : goal.loop-k-preserved
@@ -46,7 +46,7 @@ loop-k-preserved g c =
             subst (λ (j : ℕ). coeff f.ops (map f.mean (set q k y)) j ≡ carried f.ops (map f.mean p) v (map f.mean (set q k y)) (j + n)) e
             (coeff_set f.ops f.mean q k y within ∙ c.carry.ensures.means ∙ higher k (omega arith))
       ],
-      subst (All f.reduced) (sym (drop-set q k y within ∙ ap (λ j. y ∷ drop j q) next)) (c.carry.ensures.tidy, c.loop-k.invariant.1),
+      subst (AllByRecursion f.reduced) (sym (drop-set q k y within ∙ ap (λ j. y ∷ drop j q) next)) (c.carry.ensures.tidy, c.loop-k.invariant.1),
     )
 
 pub returns : goal.returns
@@ -55,5 +55,5 @@ returns g c =
     let done : c.loop-k.k ≡ 0 = omega arith in
     record {
       steps = λ i. c.loop-k.invariant.0 i (omega arith);
-      tidy = subst (λ (j : ℕ). All f.reduced (drop j c.loop-k.quotient)) done c.loop-k.invariant.1;
+      tidy = subst (λ (j : ℕ). AllByRecursion f.reduced (drop j c.loop-k.quotient)) done c.loop-k.invariant.1;
     }

@@ -1,5 +1,5 @@
 use Rattle.std.proofs.Common.{◌≡◌, ℕ, ◌-◌, ◌<◌, map, length, take, ap, ◌∙◌, subst, arith}
-use Rattle.std.specs.List.{AllByRecursion as All}
+use Rattle.std.specs.List.{AllByRecursion}
 use Rattle.std.proofs.lemmas.List.{length-set, drop-set-lt}
 use Rattle.polynomial.specs.Cells.{carried}
 use Rattle.polynomial.proofs.Fills.{filled_more}
@@ -25,7 +25,7 @@ returns g c =
     record {
       rests = record {
         means = λ k l. c.loop-k.invariant.0.means k (omega arith);
-        tidy = subst (λ (j : ℕ). All f.reduced (take j c.loop-k.buffer)) done c.loop-k.invariant.0.tidy;
+        tidy = subst (λ (j : ℕ). AllByRecursion f.reduced (take j c.loop-k.buffer)) done c.loop-k.invariant.0.tidy;
       };
       beyond = c.loop-k.invariant.1;
     }
