@@ -1,7 +1,7 @@
-// The inner-product claim of the verifier: a token that is settled or withdrawn once, and never let go.
+// The inner-product claim of the verifier: a token that is settled or withdrawn once, and not let go before.
 #![tactic(auto)]
 
-ghost use Rattle.std.specs.Prelude.{◌≡◌, false, Some, None, Ok, Err, Decides};
+ghost use Rattle.std.specs.Prelude.{◌≡◌, true, false, Some, None, Ok, Err, Decides};
 ghost use Rattle.inner_product.specs.Faults.{told, refusal};
 ghost use Rattle.inner_product.specs.Settling.{settles, Settles};
 
@@ -34,13 +34,14 @@ pub struct InnerProductClaim<F: Field> {
     d: usize,
     c: F,
     z: F,
+    spent: bool,
 }
 
 impl<F: Field> InnerProductClaim<F> {
     // The claim of d, c and z, or the first refusal that fits: 51, then 22.
     pub fn state(d: usize, c: F, z: F) -> Result<InnerProductClaim<F>, ClaimFault>
         ensures { elim result [
-          | Ok s ↦ (refusal F.Field.ops d (F.Field.mean z) ≡ None) × (s.d ≡ d) × (s.c ≡ c) × (s.z ≡ z)
+          | Ok s ↦ (refusal F.Field.ops d (F.Field.mean z) ≡ None) × (s.d ≡ d) × (s.c ≡ c) × (s.z ≡ z) × (s.spent ≡ false)
           | Err e ↦ refusal F.Field.ops d (F.Field.mean z) ≡ Some (told e)
         ] }
     {
@@ -51,33 +52,43 @@ impl<F: Field> InnerProductClaim<F> {
         if z.same(F::zero()) {
             return Err(ClaimFault::ZeroPoint);
         }
-        Ok(InnerProductClaim { d, c, z })
+        Ok(InnerProductClaim {
+            d,
+            c,
+            z,
+            spent: false,
+        })
     }
 
     // Whether `gamma^d·yh - yh2 = z^d·(ya·yb - c)`: with ya = a(z), yb = b(1/z), yh = h(z) and yh2 = h(gamma·z).
-    pub fn settle(self, ya: F, yb: F, yh: F, yh2: F) -> bool
+    pub fn settle(mut self, ya: F, yb: F, yh: F, yh2: F) -> bool
         ensures tests { result ≡ settles F.Field.ops self.d (F.Field.mean self.c) (F.Field.mean self.z) (F.Field.mean ya) (F.Field.mean yb) (F.Field.mean yh) (F.Field.mean yh2) }
         ensures decides { Decides result (Settles F.Field.ops self.d (F.Field.mean self.c) (F.Field.mean self.z) (F.Field.mean ya) (F.Field.mean yb) (F.Field.mean yh) (F.Field.mean yh2)) }
     {
-        let InnerProductClaim { d, c, z } = self;
-        balances(d, c, z, ya, yb, yh, yh2)
+        self.spent = true;
+        balances(self.d, self.c, self.z, ya, yb, yh, yh2)
     }
 
     // Gives the claim up, which says no.
-    pub fn withdraw(self) -> bool
+    pub fn withdraw(mut self) -> bool
         ensures { result ≡ false }
     {
-        let InnerProductClaim { d: _, c: _, z: _ } = self;
+        self.spent = true;
         false
     }
 }
 
-// What lets a claim go owes what nothing shows, so that no proved program does.
+// What lets a claim go owes that it is spent, which `settle` and `withdraw` alone make it.
 impl<F: Field> Drop for InnerProductClaim<F> {
     fn drop(self)
-        requires { ⊥ }
+        requires { self.spent ≡ true }
     {
-        let InnerProductClaim { d: _, c: _, z: _ } = self;
+        let InnerProductClaim {
+            d: _,
+            c: _,
+            z: _,
+            spent: _,
+        } = self;
     }
 }
 
