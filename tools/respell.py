@@ -42,7 +42,7 @@ def dashed(name):
 
 def spelled(name):
     parts = name.split("-")
-    if parts[0][0].isupper() and len(parts[0]) > 2:
+    if parts[0][0].isupper() and not any(c.isdigit() for c in parts[0]):
         return "".join(p[0].upper() + p[1:] for p in parts)
     return "_".join(parts)
 

@@ -61,20 +61,26 @@ impl<F: Field> InnerProductClaim<F> {
     }
 
     // Whether `gamma^d·yh - yh2 = z^d·(ya·yb - c)`: with ya = a(z), yb = b(1/z), yh = h(z) and yh2 = h(gamma·z).
-    pub fn settle(mut self, ya: F, yb: F, yh: F, yh2: F) -> bool
+    pub fn settle(self, ya: F, yb: F, yh: F, yh2: F) -> bool
         ensures tests { result ≡ settles F.Field.ops self.d (F.Field.mean self.c) (F.Field.mean self.z) (F.Field.mean ya) (F.Field.mean yb) (F.Field.mean yh) (F.Field.mean yh2) }
         ensures decides { Decides result (Settles F.Field.ops self.d (F.Field.mean self.c) (F.Field.mean self.z) (F.Field.mean ya) (F.Field.mean yb) (F.Field.mean yh) (F.Field.mean yh2)) }
     {
-        self.spent = true;
-        balances(self.d, self.c, self.z, ya, yb, yh, yh2)
+        let said = balances(self.d, self.c, self.z, ya, yb, yh, yh2);
+        self.spend();
+        said
     }
 
     // Gives the claim up, which says no.
-    pub fn withdraw(mut self) -> bool
+    pub fn withdraw(self) -> bool
         ensures { result ≡ false }
     {
-        self.spent = true;
+        self.spend();
         false
+    }
+
+    // Lets the claim go as spent.
+    fn spend(mut self) {
+        self.spent = true;
     }
 }
 

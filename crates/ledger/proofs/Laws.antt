@@ -14,7 +14,7 @@ use Rattle.oracle.specs.Standing.{Standing, after_by}
 use Rattle.equations.specs.Tests.{settled, first_test, second_test, third_test, accepts}
 use Rattle.ledger.specs.Ledger.{Move, draws, lists_of, m_of, n_of, alpha_of, beta_of, z_of, claim_of, ledger_of, refused_of, sizes_of}
 use Rattle.ledger.specs.States.{State, fresh, ran, verdict_by}
-use Rattle.ledger.specs.Law.{TrueClaim, Equal, HonestReply, LuckyAlpha, LuckyBeta, LuckyZ, before_alpha, before_beta, before_z, OneLucky, At_most, Verdict, Law, RunsKeepTheLaw}
+use Rattle.ledger.specs.Law.{TrueClaim, Equal, HonestReply, LuckyAlpha, LuckyBeta, LuckyZ, before_alpha, before_beta, before_z, OneLucky, AtMost, Verdict, Law, RunsKeepTheLaw}
 use Rattle.ledger.proofs.Formed.{Formed, entries, at_draw, at_ten, formed_short, formed_from}
 use Rattle.ledger.proofs.Steps.{reading_of, verdict_at, state_at, verdict_early, ran_at}
 use Rattle.ledger.proofs.Fronts.{grows, entered_once, all_told}
@@ -28,21 +28,21 @@ module _ {K : Type 0} (f : Ops K) (laws : Laws f) where
   sizes_front j [] = refl
   sizes_front j (c ∷ l) = refl
 
-  few_alpha_at : (l : List (Move K)) → At_most f (m_of l - 1) (LuckyAlpha f (before_alpha l))
+  few_alpha_at : (l : List (Move K)) → AtMost f (m_of l - 1) (LuckyAlpha f (before_alpha l))
   few_alpha_at l xs d e =
       let g = theorems.few_alpha f laws (claim_of (take 4 l)) xs d (each_kept (LuckyAlpha f (before_alpha l)) xs e) in
       let r = ap (λ (s : ℕ × ℕ). s.0) (sizes_front 3 l) in
       omega (arith, g, r)
 
-  few_beta_at : (l : List (Move K)) → At_most f (n_of l - 1) (LuckyBeta f (before_beta l))
+  few_beta_at : (l : List (Move K)) → AtMost f (n_of l - 1) (LuckyBeta f (before_beta l))
   few_beta_at l xs d e =
       let g = theorems.few_beta f laws (claim_of (take 5 l)) xs d (each_kept (LuckyBeta f (before_beta l)) xs e) in
       let r = ap (λ (s : ℕ × ℕ). s.1) (sizes_front 4 l) in
       omega (arith, g, r)
 
-  few_z_at : (l : List (Move K)) → 10 ≤ length l → Formed f l → At_most f (max (m_of l * (3 * n_of l + 1) - 1) (6 * n_of l)) (LuckyZ f (before_z l))
+  few_z_at : (l : List (Move K)) → 10 ≤ length l → Formed f l → AtMost f (max (m_of l * (3 * n_of l + 1) - 1) (6 * n_of l)) (LuckyZ f (before_z l))
   few_z_at l h d =
-      at_ten f laws 0 l (λ y. At_most f (max (m_of y * (3 * n_of y + 1) - 1) (6 * n_of y)) (LuckyZ f (before_z y))) h d
+      at_ten f laws 0 l (λ y. AtMost f (max (m_of y * (3 * n_of y + 1) - 1) (6 * n_of y)) (LuckyZ f (before_z y))) h d
       (λ s p α β rest shaped fits near b r xs distinct e. theorems.few_z f laws s p α β xs shaped fits distinct (each_kept (LuckyZ f (before_z (entries f laws s p α β rest))) xs e))
 
   -- judge's tests say yes exactly if the equations hold

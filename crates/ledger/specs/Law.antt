@@ -51,8 +51,8 @@ OneLucky f l =
     (LuckyAlpha f (before_alpha l) (alpha_of f l)) ⊎ ((LuckyBeta f (before_beta l) (beta_of f l)) ⊎ (LuckyZ f (before_z l) (z_of f l)))
 
 -- P holds of at most k elements other than zero
-abbrev pub At_most : {K : Type 0} → Ops K → ℕ → (K → Type 0) → Type 0
-At_most {K} f k P = (xs : List K) → Distinct xs → Each (λ x. (x ≢ f.nil) × P x) xs → length xs ≤ k
+abbrev pub AtMost : {K : Type 0} → Ops K → ℕ → (K → Type 0) → Type 0
+AtMost {K} f k P = (xs : List K) → Distinct xs → Each (λ x. (x ≢ f.nil) × P x) xs → length xs ≤ k
 
 -- no verdict (0) before turn 12; then accepted (1) and E1 to E3 hold for the ledger, or turned down (2) and they do not
 abbrev pub Verdict : {K : Type 0} → Ops K → List (Move K) → ℕ → ℕ → Type 0
@@ -91,9 +91,9 @@ pub record Keeps {K : Type 0} (f : Ops K) (st : Standing K) (calls l : List (Mov
   pub accepted_false : s.verdict ≡ 1 → (TrueClaim f l → ⊥) → OneLucky f l
   pub grows : Grows f st calls l
   pub entered_once : EnteredOnce f st calls l
-  pub few_alpha : 4 ≤ s.turn → At_most f (m_of l - 1) (LuckyAlpha f (before_alpha l))
-  pub few_beta : 5 ≤ s.turn → At_most f (n_of l - 1) (LuckyBeta f (before_beta l))
-  pub few_z : 10 ≤ s.turn → At_most f (max (m_of l * (3 * n_of l + 1) - 1) (6 * n_of l)) (LuckyZ f (before_z l))
+  pub few_alpha : 4 ≤ s.turn → AtMost f (m_of l - 1) (LuckyAlpha f (before_alpha l))
+  pub few_beta : 5 ≤ s.turn → AtMost f (n_of l - 1) (LuckyBeta f (before_beta l))
+  pub few_z : 10 ≤ s.turn → AtMost f (max (m_of l * (3 * n_of l + 1) - 1) (6 * n_of l)) (LuckyZ f (before_z l))
   pub turned_down : s.verdict ≡ 2 → (TrueClaim f l → ⊥) ⊎ (HonestReply f l → ⊥)
   pub named : Named f st l s
 

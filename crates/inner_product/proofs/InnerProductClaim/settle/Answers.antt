@@ -6,6 +6,6 @@ pub returns : goal.returns
 returns g c =
     let f = g.F.Field in
     record {
-      tests = c.balances.ensures;
-      decides = Decides-at _ _ c.balances.ensures (decides_same f.ops g.met.F.Field.lawful _ _);
+      tests = c.balances-said.ensures;
+      decides = Decides-at _ _ c.balances-said.ensures (decides_same f.ops g.met.F.Field.lawful _ _);
     }
