@@ -7,7 +7,7 @@ use Rattle.std.proofs.lemmas.Bool.{and_parts, and_from, not-true, lt-ltb, ne_eqb
 use Rattle.std.proofs.lemmas.Bool.Decides.{nat_tests}
 use Rattle.std.specs.Str.Parse.{AllDigits, digits_value_after}
 use Rattle.std.specs.Int.{IsInRange}
-use Rattle.std.specs.Char.{digit_value as digitValue}
+use Rattle.std.specs.Char.{digit_value as decimal_digit_value}
 use Rattle.std.specs.Str.{bytes_eq}
 use Rattle.claim_file.specs.declared.FieldName.{FieldName}
 use Rattle.claim_file.specs.declared.FieldName.TheVariants.{Mersenne31, Gf256}
@@ -51,13 +51,13 @@ solid_digits : (ds : List ℕ) → AllDigits 10 ds → solid ds ≡ true
 solid_digits [] h = refl
 solid_digits (c ∷ cs) h = and_from (not (apart c)) (solid cs) (not_from (apart c) (solid_digit c (digit_from_value c h.0))) (solid_digits cs h.1)
 
-digit_read : (c : ℕ) → IsInRange 48 57 c → digit_value 10 c ≡ Some (digitValue c)
+digit_read : (c : ℕ) → IsInRange 48 57 c → digit_value 10 c ≡ Some (decimal_digit_value c)
 digit_read c h = grind (arith, nat_tests)
 
 spelled_digits : (v : ℕ) (ds : List ℕ) → AllDigits 10 ds → spelled_after 10 v ds ≡ Some (digits_value_after 10 v ds)
 unfolding spelled_after
 spelled_digits v [] h = refl
-spelled_digits v (c ∷ cs) h = rw (digit_read c (digit_from_value c h.0)) (spelled_digits (v * 10 + digitValue c) cs h.1)
+spelled_digits v (c ∷ cs) h = rw (digit_read c (digit_from_value c h.0)) (spelled_digits (v * 10 + decimal_digit_value c) cs h.1)
 
 no_prefix : (ds : List ℕ) → AllDigits 10 ds → take 2 ds ≡ codes "0x" → ⊥
 no_prefix [] h e = let z : ◌≡◌ {A = ℕ} 0 2 = ap length e in omega arith
