@@ -17,7 +17,10 @@ done
 
 line() { sed -n "s/^$1: //p" "$edit"; }
 file=$work/$(line file)
-[ "$(grep -cF -- "$(line old)" "$file")" -eq 1 ]
+if [ "$(grep -cxF -- "$(line old)" "$file")" -ne 1 ]; then
+    echo "settle-twice: the edit does not fit the text"
+    exit 1
+fi
 OLD=$(line old) NEW=$(line new) awk '$0 == ENVIRON["OLD"] { $0 = ENVIRON["NEW"] } { print }' "$file" >"$work/edited"
 mv "$work/edited" "$file"
 

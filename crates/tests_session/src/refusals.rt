@@ -49,7 +49,7 @@ fn judge<'a>(number: u32) -> Step<'a> {
 }
 
 // Up to the draw of beta; `p` has eight entries.
-fn statement<'a>(p: &'a [Mersenne31; 8]) -> [Step<'a>; 19] {
+fn statement<'a>(p: &'a [Mersenne31; 8]) -> [Step<'a>; 21] {
     [
         put(&p[0..1], 11),
         draw(1, 21),
@@ -58,6 +58,7 @@ fn statement<'a>(p: &'a [Mersenne31; 8]) -> [Step<'a>; 19] {
         open(65, &p[0..4], &p[0..1], 12),
         open(1, &p[0..3], &p[0..1], 13),
         open(1, &p[0..4], &p[0..2], 13),
+        open(1, &p[0..4], &p[0..0], 13),
         open(1, &p[0..4], &p[0..1], 0),
         open(1, &p[0..4], &p[0..1], 11),
         put(&p[0..2], 14),
@@ -66,6 +67,7 @@ fn statement<'a>(p: &'a [Mersenne31; 8]) -> [Step<'a>; 19] {
         put(&p[0..0], 0),
         put(&p[0..1], 0),
         put(&p[0..1], 11),
+        open(1, &p[0..4], &p[0..1], 11),
         draw(0, 22),
         draw(P, 22),
         draw(10, 0),
@@ -125,7 +127,7 @@ fn whole_run(rt: HostRuntime) -> Result<(), Fail> {
     play(&rt, &mut session, &statement(&p));
     play(&rt, &mut session, &reply(&p));
     let report = session.report();
-    assert_eq!(rt; (report.turn, report.count), (12, 26));
+    assert_eq!(rt; (report.turn, report.count), (12, 28));
     assert_eq!(rt; report.verdict.number(), 2);
     assert_eq!(rt; session.into_oracle().free(), 1);
     Ok(())
