@@ -15,12 +15,10 @@ pub trait Field: Copy {
 
     ghost reduced: { Self → Type 0 };
 
+    ghost SPAN: { ℕ };
+
     // No power of gamma with an exponent from 1 to `SPAN` is one.
     const SPAN: u32;
-
-    // `SPAN`, tied to its meaning.
-    fn span_value() -> u32
-        ensures { result ≡ ops.span };
 
     fn zero() -> Self
         ensures means { mean result ≡ ops.nil }
@@ -55,7 +53,16 @@ pub trait Field: Copy {
     fn same(self, other: Self) -> bool
         ensures { result ≡ ops.same (mean self) (mean other) };
 
+    // Whether it stands for the zero element.
+    final fn is_zero(self) -> bool
+        ensures { result ≡ ops.same (mean self) ops.nil }
+    {
+        self.same(Self::zero())
+    }
+
     ghost lawful: { Laws ops };
+
+    ghost spans: { SPAN ≡ ops.span };
 
     ghost canonical: { (x y : Self) → reduced x → reduced y → mean x ≡ mean y → x ≡ y };
 }

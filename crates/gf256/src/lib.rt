@@ -1,7 +1,7 @@
 #![tactic(auto)]
 
 ghost use Rattle.std.specs.Prelude.{◌≡◌, ℕ, ◌%◌, ◌<◌, min, true, Some, None, bit_xor};
-ghost use Rattle.std.proofs.Common.{ap, ◌∙◌, arith};
+ghost use Rattle.std.proofs.Common.{refl, ap, ◌∙◌, arith};
 ghost use Rattle.gf256.specs.Gf256.{Byte, bytes, inverts, low, shifted, times as multiplied};
 ghost use Rattle.gf256.specs.Laws.{laws};
 ghost use Rattle.gf256.specs.declared.Gf256.{Gf256};
@@ -24,19 +24,19 @@ impl Field for Gf256 {
     // true of every byte
     ghost reduced = { λ x. x.0 < 256 };
 
+    ghost SPAN = { 254 };
+
     const SPAN: u32 = 254;
 
     ghost lawful = { laws };
+
+    ghost spans = { refl };
 
     ghost canonical = { λ x y hx hy e.
         let lows = ap (λ (k : Byte). k.0) e in
         let bytes : x.0 ≡ y.0 = omega arith in
         let byte : ℕ → Gf256 = λ n. record { 0 = n } in
         ap byte bytes };
-
-    fn span_value() -> u32 {
-        Self::SPAN
-    }
 
     fn zero() -> Gf256 {
         Gf256(0x00)
@@ -63,10 +63,8 @@ impl Field for Gf256 {
     }
 
     fn inverse(self) -> Option<Gf256> {
-        match reciprocal(self.0) {
-            None => None,
-            Some(inverted) => Some(Gf256(inverted)),
-        }
+        let inverted = reciprocal(self.0)?;
+        Some(Gf256(inverted))
     }
 
     fn same(self, other: Gf256) -> bool {

@@ -1,7 +1,7 @@
 #![tactic(auto)]
 
 ghost use Rattle.std.specs.Prelude.{◌≡◌, ℕ, ◌+◌, ◌-◌, ◌*◌, ◌%◌, ◌<◌, Some, None};
-ghost use Rattle.std.proofs.Common.{ap, arith};
+ghost use Rattle.std.proofs.Common.{refl, ap, arith};
 ghost use Rattle.mersenne31.specs.Mersenne31.{Prime, Remainder, modulo, p, rem};
 ghost use Rattle.mersenne31.specs.Laws.{laws};
 ghost use Rattle.mersenne31.specs.declared.Mersenne31.{Mersenne31};
@@ -15,7 +15,8 @@ pub const P: u32 = 2_147_483_647;
 
 // The modulus, which is prime.
 pub fn modulus() -> u32
-    ensures { (result ≡ p) × Prime result }
+    ensures value { result ≡ p }
+    ensures prime { Prime result }
 {
     P
 }
@@ -33,19 +34,19 @@ impl Field for Mersenne31 {
 
     ghost reduced = { λ x. x.0 < p };
 
+    ghost SPAN = { 510 };
+
     const SPAN: u32 = 510;
 
     ghost lawful = { laws };
+
+    ghost spans = { refl };
 
     ghost canonical = { λ x y hx hy e.
         let rems = ap (λ (k : Remainder). k.0) e in
         let words : x.0 ≡ y.0 = omega arith in
         let word : ℕ → Mersenne31 = λ n. record { 0 = n } in
         ap word words };
-
-    fn span_value() -> u32 {
-        Self::SPAN
-    }
 
     fn zero() -> Mersenne31 {
         Mersenne31(0)
@@ -72,10 +73,8 @@ impl Field for Mersenne31 {
     }
 
     fn inverse(self) -> Option<Mersenne31> {
-        match reciprocal(self.0) {
-            None => None,
-            Some(inverted) => Some(Mersenne31(inverted)),
-        }
+        let inverted = reciprocal(self.0)?;
+        Some(Mersenne31(inverted))
     }
 
     fn same(self, other: Mersenne31) -> bool {

@@ -4,9 +4,6 @@ use Rattle.gf256.specs.Gf256.{product}
 use Rattle.gf256.specs.Times.{bit_lt}
 use Rattle.gf256.proofs.product.Goals as goal
 
-pub overflow_mul-sum : goal.overflow_mul-sum
-overflow_mul-sum c = record { fits = bit_lt (c.loop-i.b % 2) c.loop-i.a (mod-lt c.loop-i.b (lit< tt)) c.loop-i.invariant.0 }
-
 pub loop-i-preserved : goal.loop-i-preserved
 loop-i-preserved c =
     let i = c.loop-i._i in

@@ -1,12 +1,13 @@
+use Rattle.std.proofs.Common.{◌≡◌, rules}
 use Rattle.field.proofs.Numbers.{below_path}
-use Rattle.mersenne31.specs.Mersenne31.{p}
+use Rattle.mersenne31.specs.Mersenne31.{p, rem}
 use Rattle.mersenne31.specs.Laws.{reciprocals}
 use Rattle.mersenne31.proofs.Mersenne31Field.inverse.Goals as goal
 
-pub returns-in-None : goal.returns-in-None
-returns-in-None c = record { means = below_path p c.in-None.ensures; tidy = tt }
+pub returns-in_err-inverted-clause-means : goal.returns-in_err-inverted-clause-means
+returns-in_err-inverted-clause-means c =
+    let none : rem c.args.self.0 ≡ rem 0 = below_path p (search rules) in
+    search rules
 
-pub returns-in-Some : goal.returns-in-Some
-returns-in-Some c =
-    let found = c.in-Some.ensures in
-    record { means = reciprocals c.args.self.0 c.in-Some.inverted found.1; tidy = found.0 }
+pub returns-clause-means : goal.returns-clause-means
+returns-clause-means c = reciprocals c.args.self.0 c.in_ok-inverted.inverted (search rules)
