@@ -5,8 +5,11 @@ use Rattle.field.specs.Field.{Ops}
 use Rattle.algebra.specs.Polynomials.{coeff}
 
 module _ {X K : Type 0} (f : Ops K) (mean : X → K) (xs : List X) where
+  pub coeff_at : (i : ℕ) (y : X) → i < length xs → mean (get_or xs i y) ≡ coeff f (map mean xs) i
+  coeff_at i y h = sym (get_or-map mean xs i y f.nil h)
+
   pub coeff_read : (i : ℕ) (y : X) → i < length xs → y ≡ get_or xs i y → mean y ≡ coeff f (map mean xs) i
-  coeff_read i y h e = ap mean e ∙ sym (get_or-map mean xs i y f.nil h)
+  coeff_read i y h e = ap mean e ∙ coeff_at i y h
 
   pub coeff_beyond : (i : ℕ) → length xs ≤ i → coeff f (map mean xs) i ≡ f.nil
   coeff_beyond i h = get_or_past (map mean xs) i f.nil (omega (arith, length-map xs mean))

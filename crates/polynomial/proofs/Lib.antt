@@ -1,2 +1,3 @@
 pub mod Coefficients
 pub mod Fills
+pub mod Stretches

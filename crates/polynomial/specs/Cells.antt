@@ -1,5 +1,5 @@
 -- What is said of the cells of a slice of field values.
-use Rattle.std.specs.Prelude.{◌≡◌, ℕ, List, map, length}
+use Rattle.std.specs.Prelude.{◌≡◌, ℕ, List, [], ◌∷◌, map, length}
 use Rattle.std.specs.List.{AllByRecursion}
 use Rattle.field.specs.Field.{Ops}
 use Rattle.algebra.specs.Polynomials.{Divides, coeff}
@@ -18,3 +18,9 @@ pub record Divided {X K : Type 0} (f : Ops K) (mean : X → K) (reduced : X → 
 -- p[k] + v·q[k], with which synthetic division goes on
 abbrev pub carried : {K : Type 0} → Ops K → List K → K → List K → ℕ → K
 carried f p v q k = f.add (coeff f p k) (f.mul v (coeff f q k))
+
+-- the sum of a[i]·b[i], up to the end of the shorter
+abbrev pub inner : {K : Type 0} → Ops K → List K → List K → K
+inner f [] b = f.nil
+inner f (x ∷ a) [] = f.nil
+inner f (x ∷ a) (y ∷ b) = f.add (f.mul x y) (inner f a b)

@@ -24,10 +24,7 @@ pub fn divide<F: Field>(
           × (quotient.new ≡ quotient.old) × (remainder.new ≡ remainder.old)
     ] }
 {
-    if !rows_fit(p.len(), quotient.len(), remainder.len()) {
-        return Err(WrongLength);
-    }
-    fill_quotient(p, remainder.len(), alpha, quotient);
+    write_quotient(p, remainder.len(), alpha, quotient)?;
     fill_remainder(p, alpha, quotient, remainder);
     Ok(())
 }
@@ -65,7 +62,8 @@ fn rows_fit(dividend: usize, quotient: usize, remainder: usize) -> bool
 
 // Writes the quotient from its last coefficient down: coefficient k is `carried` at k + n.
 fn fill_quotient<F: Field>(p: &[F], n: usize, alpha: F, quotient: &mut [F])
-    requires { (length quotient.old + n ≡ length p.now) × (0 < n) }
+    requires row_less { length quotient.old + n ≡ length p.now }
+    requires some { 0 < n }
     ensures steps { (k : ℕ) → coeff F.Field.ops (map F.Field.mean quotient.new) k
         ≡ carried F.Field.ops (map F.Field.mean p.now) (F.Field.mean alpha) (map F.Field.mean quotient.new) (k + n) }
     ensures tidy { AllByRecursion F.Field.reduced quotient.new }
@@ -81,8 +79,8 @@ fn fill_remainder<F: Field>(p: &[F], alpha: F, quotient: &[F], remainder: &mut [
         ≡ carried F.Field.ops (map F.Field.mean p.now) (F.Field.mean alpha) (map F.Field.mean quotient.now) k }
     ensures tidy { AllByRecursion F.Field.reduced remainder.new }
 {
-    for k in 0..remainder.len() {
-        remainder[k] = carry(p, alpha, quotient, k);
+    for (k, cell) in remainder.iter_mut().enumerate() {
+        *cell = carry(p, alpha, quotient, k);
     }
 }
 

@@ -1,6 +1,6 @@
 ghost use Rattle.std.specs.Prelude.{◌≡◌, ◌+◌, ◌-◌, ◌*◌, ◌≤◌, map, length, Ok, Err};
-ghost use Rattle.algebra.specs.Polynomials.{coeff, middle, middle_list};
-ghost use Rattle.polynomial.specs.Cells.{Cells};
+ghost use Rattle.algebra.specs.Polynomials.{middle_list};
+ghost use Rattle.polynomial.specs.Cells.{Cells, inner};
 ghost use Rattle.polynomial.specs.Lengths.{MiddleFits};
 
 use crate::WrongLength;
@@ -25,29 +25,27 @@ pub fn middle_product<F: Field>(a: &[F], b: &[F], out: &mut [F]) -> Result<(), W
     Ok(())
 }
 
-// Writes every entry of the middle product.
+// Writes every entry of the middle product: entry k pairs what stands from `a[k - d]` and `b[d - k]` on.
 fn fill_middle<F: Field>(a: &[F], b: &[F], d: usize, out: &mut [F])
-    requires { (length a.now ≡ d + 1) × ((length b.now ≡ d + 1) × (length out.old ≡ 2 * d + 1)) }
+    requires a_long { length a.now ≡ d + 1 }
+    requires b_long { length b.now ≡ d + 1 }
+    requires out_long { length out.old ≡ 2 * d + 1 }
     ensures { Cells F.Field.mean F.Field.reduced out.new
         (middle_list F.Field.ops d (map F.Field.mean a.now) (map F.Field.mean b.now)) }
 {
-    for k in 0..out.len() {
-        out[k] = middle_entry(a, b, d, k);
+    for (k, cell) in out.iter_mut().enumerate() {
+        *cell = inner_product(&a[k.saturating_sub(d)..], &b[d.saturating_sub(k)..]);
     }
 }
 
-// Entry `k` of the middle product.
-fn middle_entry<F: Field>(a: &[F], b: &[F], d: usize, k: usize) -> F
-    requires { (length a.now ≡ d + 1) × ((length b.now ≡ d + 1) × (k ≤ 2 * d)) }
-    ensures means { F.Field.mean result ≡ middle F.Field.ops d (coeff F.Field.ops (map F.Field.mean a.now)) (coeff F.Field.ops (map F.Field.mean b.now)) k }
+// The sum of `a[i]·b[i]`, up to the end of the shorter.
+fn inner_product<F: Field>(a: &[F], b: &[F]) -> F
+    ensures means { F.Field.mean result ≡ inner F.Field.ops (map F.Field.mean a.now) (map F.Field.mean b.now) }
     ensures tidy { F.Field.reduced result }
 {
     let mut sum = F::zero();
-    for j in 0..d + 1 {
-        let low = d - j;
-        if low <= k && k - low <= d {
-            sum = sum.plus(a[k - low].times(b[j]));
-        }
+    for (x, y) in a.iter().zip(b) {
+        sum = sum.plus(x.times(*y));
     }
     sum
 }

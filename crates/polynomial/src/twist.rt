@@ -18,7 +18,7 @@ pub fn solve_twist<F: Field>(d: usize, free: F, cells: &mut [F]) -> Result<(), W
           × (cells.new ≡ cells.old)
     ] }
 {
-    if cells.len() % 2 == 0 || cells.len() / 2 != d || 2 * d > F::span_value() as usize {
+    if cells.len() % 2 == 0 || cells.len() / 2 != d || 2 * d > F::SPAN as usize {
         return Err(WrongLength);
     }
     fill_solved(d, free, cells);
@@ -30,14 +30,15 @@ fn fill_solved<F: Field>(d: usize, free: F, cells: &mut [F])
     requires { TwistFits F.Field.ops.span d (length cells.old) }
     ensures { Cells F.Field.mean F.Field.reduced cells.new (solved F.Field.ops d (F.Field.mean free) (map F.Field.mean cells.old)) }
 {
-    for k in 0..cells.len() {
-        cells[k] = untwist(d, free, cells[k], k);
+    for (k, cell) in cells.iter_mut().enumerate() {
+        *cell = untwist(d, free, *cell, k);
     }
 }
 
 // `y/(gamma^d - gamma^k)`, or `free` at d.
 fn untwist<F: Field>(d: usize, free: F, y: F, k: usize) -> F
-    requires { (k ≤ 2 * d) × (2 * d ≤ F.Field.ops.span) }
+    requires within { k ≤ 2 * d }
+    requires near { 2 * d ≤ F.Field.ops.span }
     ensures means { F.Field.mean result ≡ untwisted F.Field.ops d (F.Field.mean free) (F.Field.mean y) k }
     ensures tidy { F.Field.reduced result }
 {
@@ -47,7 +48,7 @@ fn untwist<F: Field>(d: usize, free: F, y: F, k: usize) -> F
     match gap::<F>(d, k).inverse() {
         Some(inverse) => y.times(inverse),
         // The powers differ, so the gap is not zero.
-        None => F::zero(),
+        None => unreachable!(),
     }
 }
 
@@ -64,7 +65,7 @@ pub fn power<F: Field>(x: F, k: usize) -> F
     ensures tidy { F.Field.reduced result }
 {
     let mut product = F::one();
-    for i in 0..k {
+    for _ in 0..k {
         product = x.times(product);
     }
     product

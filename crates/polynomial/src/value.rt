@@ -9,8 +9,8 @@ pub fn value_at<F: Field>(p: &[F], x: F) -> F
     ensures tidy { F.Field.reduced result }
 {
     let mut sum = F::zero();
-    for i in (0..p.len()).rev() {
-        sum = p[i].plus(x.times(sum));
+    for c in p.iter().rev() {
+        sum = c.plus(x.times(sum));
     }
     sum
 }
@@ -19,5 +19,5 @@ pub fn value_at<F: Field>(p: &[F], x: F) -> F
 pub fn coefficient<F: Field>(p: &[F], i: usize) -> F
     ensures { F.Field.mean result ≡ coeff F.Field.ops (map F.Field.mean p.now) i }
 {
-    if i < p.len() { p[i] } else { F::zero() }
+    p.get(i).copied().unwrap_or(F::zero())
 }

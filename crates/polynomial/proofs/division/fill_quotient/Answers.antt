@@ -48,12 +48,3 @@ loop-k-preserved g c =
       ],
       subst (AllByRecursion f.reduced) (sym (drop-set q k y within ∙ ap (λ j. y ∷ drop j q) next)) (c.carry.ensures.tidy, c.loop-k.invariant.1),
     )
-
-pub returns : goal.returns
-returns g c =
-    let f = g.F.Field in
-    let done : c.loop-k.k ≡ 0 = omega arith in
-    record {
-      steps = λ i. c.loop-k.invariant.0 i (omega arith);
-      tidy = subst (λ (j : ℕ). AllByRecursion f.reduced (drop j c.loop-k.quotient)) done c.loop-k.invariant.1;
-    }

@@ -1,8 +1,14 @@
-use Rattle.std.proofs.Common.{◌≡◌, map, drop}
+use Rattle.std.proofs.Common.{◌≡◌, List, ◌++◌, map}
 use Rattle.algebra.specs.Polynomials.{value}
 use Rattle.polynomial.proofs.value.value_at.Given as goal
 
-abbrev pub invariant-loop-i : goal.invariant-loop-i
-invariant-loop-i g l =
+-- behind the coefficients that are still to come stand those whose value is the sum
+abbrev pub invariant-loop-c : goal.invariant-loop-c
+invariant-loop-c g l =
     let f = g.F.Field in
-    (f.mean l.sum ≡ value f.ops (map f.mean (drop l.i l.p)) (f.mean l.x)) × f.reduced l.sum
+    record {
+      rest : List _;
+      split : l.p ≡ l.c-iterator.iter.rest.now ++ rest;
+      means : f.mean l.sum ≡ value f.ops (map f.mean rest) (f.mean l.x);
+      tidy : f.reduced l.sum;
+    }
