@@ -1,3 +1,4 @@
 pub mod Errors
-pub mod Outcomes
+pub mod Parts
+pub mod OwnedClaims
 pub mod Replies

@@ -1,41 +1,21 @@
--- Solutions of the middle product, parts of a buffer, and the reply that stands in it.
-use Rattle.std.proofs.Common.{◌≡◌, ℕ, zero, suc, ◌+◌, ◌-◌, ◌*◌, ◌%◌, ◌<◌, ◌≤◌, Bool, cond, ◌||◌, leb, List, [], ◌++◌, map, length, take, drop, set, Some, None, Ok, Err, Option, Result, sym, refl, ap, ◌∙◌, subst, ap₂, le_refl, arith, eq-eqb, ne_eqb}
-use native.Mathlib.Decide.{dec_lt}
+-- Solutions of the middle product, and the reply that stands in its cells.
+use Rattle.std.proofs.Common.{◌≡◌, ℕ, zero, suc, ◌+◌, ◌-◌, ◌*◌, ◌%◌, ◌<◌, ◌≤◌, List, ◌++◌, map, length, take, drop, sym, refl, ap, ◌∙◌, subst, ap₂, append_assoc, length-append, arith, eq-eqb, ne_eqb}
 use native.Mathlib.Nat.{mul-mod_left}
-use borrow.Rule.Slice.PartMut.{put_mid}
-use Rattle.std.specs.List.{between, AllByRecursion}
-use Rattle.std.proofs.lemmas.List.{length-map, take-map, drop-map, get_or-take, get_or-drop, take-take, take-append-drop, drop_at, drop-drop, length-take-le, length-drop}
-use Rattle.std.proofs.lemmas.Slice.{between_is, between-put_mid, take-put_mid, take-put_mid_below, drop-put_mid}
+use Rattle.std.specs.List.{between}
+use Rattle.std.proofs.lemmas.List.{length-map, take-map, drop-map, take_at, drop_at}
 use Rattle.std.proofs.lemmas.List.FromFn.{get_or-map-range_with_len}
-use Rattle.std.proofs.ByRecursion.{All-append}
-use Rattle.field.specs.Field.{Ops, Laws, power}
+use Rattle.field.specs.Field.{Ops, power}
 use Rattle.algebra.specs.Sums.{sub}
-use Rattle.algebra.specs.Polynomials.{coeff, middle}
-use Rattle.algebra.specs.Relation.{Claim, wires}
+use Rattle.algebra.specs.Polynomials.{coeff, middle, Divides}
+use Rattle.algebra.specs.Relation.{wires}
 use Rattle.algebra.specs.Proofs.{Reply, left_scaled}
-use Rattle.algebra.proofs.Polynomials.{divides}
-use Rattle.polynomial.specs.Cells.{Cells, carried}
+use Rattle.polynomial.specs.Cells.{Cells, Divided}
 use Rattle.polynomial.specs.Lengths.{RowsFit}
-use Rattle.polynomial.specs.Steps.{Stepped}
 use Rattle.polynomial.specs.Twist.{untwisted, solved}
-use Rattle.polynomial.proofs.Coefficients.{coeff_set, coeff_set_other}
-use Rattle.prover.specs.Claims.{claimed, in_range, in_shape}
-use Rattle.prover.specs.Refusals.{Told}
-use Rattle.prover.specs.Replies.{reply_cells, proof_refusal, reply_in, Replied, Proved, Solution, Division, Between, Filled}
-
--- a call whose lengths fit is not refused
-pub accepted : {T E : Type 0} (A B C : Type 0) (r : Result T E) → (elim r as (λ _. Type 0) [ Ok _ ↦ A × B | Err _ ↦ (A → ⊥) × C ]) → A → B
-accepted A B C (Ok x) h a = h.1
-accepted A B C (Err e) h a = absurd (h.0 a)
-
--- cells that are written one by one from a place on
-module _ {X K : Type 0} (f : Ops K) (mean : X → K) (t : ℕ → K) (xs : List X) where
-  pub written_more : (at i : ℕ) (y : X) → at + i < length xs → ((k : ℕ) → k < i → coeff f (map mean xs) (at + k) ≡ t k) → mean y ≡ t i
-      → (k : ℕ) → k < i + 1 → coeff f (map mean (set xs (at + i) y)) (at + k) ≡ t k
-  written_more at i y h was e k l = elim (dec_lt k i) [
-    | yes b ↦ coeff_set_other f mean xs (at + i) (at + k) y (λ o. omega arith) ∙ was k b
-    | no b ↦ let o : k ≡ i = omega arith in subst (λ (j : ℕ). coeff f (map mean (set xs (at + i) y)) (at + j) ≡ t j) (sym o) (coeff_set f mean xs (at + i) y h ∙ e)
-  ]
+use Rattle.prover.specs.Claims.{claim_of}
+use Rattle.prover.specs.Replies.{reply_in, Replied, Solution}
+use Rattle.prover.specs.declared.claim.Claim.{Claim}
+use Rattle.prover.proofs.Parts.{map_part}
 
 -- cells that hold a middle product, after they were solved
 module _ {X K : Type 0} (f : Ops K) (mean : X → K) (reduced : X → Type 0) (d : ℕ) (v : K) (a b : ℕ → K) (xs ys : List X) where
@@ -58,174 +38,89 @@ module _ {X K : Type 0} (f : Ops K) (mean : X → K) (reduced : X → Type 0) (d
     tidy = is.tidy;
   }
 
--- parts of lists
-module _ {X : Type 0} where
-  pub split_take : (a e : ℕ) (xs : List X) → a ≤ e → take e xs ≡ take a xs ++ between a e xs
-  split_take a e xs h =
-      sym (take-append-drop a (take e xs)) ∙ ap₂ ◌++◌ (take-take a e xs h) (sym (between_is xs a e))
+-- M as whole rows
+pub whole_rows : (m w p q r : ℕ) → 1 ≤ m → 0 < w → p ≡ m * w → q ≡ (m - 1) * w → r ≡ w → RowsFit p q r
+whole_rows zero w p q r h some ep eq er = absurd (omega arith)
+whole_rows (suc m) w p q r h some ep eq er =
+    let less : suc m - 1 ≡ m = omega arith in
+    let rows : q ≡ m * w = eq ∙ ap (λ k. k * w) less in
+    record { some = omega arith; row_less = omega arith; whole = ap₂ ◌%◌ rows er ∙ mul-mod_left m w }
 
-  pub same_take : (a e : ℕ) (xs ys : List X) → a ≤ e → take e xs ≡ take e ys → take a xs ≡ take a ys
-  same_take a e xs ys h g = sym (take-take a e xs h) ∙ ap (take a) g ∙ take-take a e ys h
-
-  pub same_part : (a b e : ℕ) (xs ys : List X) → b ≤ e → take e xs ≡ take e ys → between a b xs ≡ between a b ys
-  same_part a b e xs ys h g = between_is xs a b ∙ ap (drop a) (same_take b e xs ys h g) ∙ sym (between_is ys a b)
-
-  pub same_drop : (a e : ℕ) (xs ys : List X) → a ≤ e → drop a xs ≡ drop a ys → drop e xs ≡ drop e ys
-  same_drop a e xs ys h g =
-      let o : a + (e - a) ≡ e = omega arith in
-      ap (λ n. drop n xs) (sym o) ∙ sym (drop-drop (e - a) a xs) ∙ ap (drop (e - a)) g ∙ drop-drop (e - a) a ys ∙ ap (λ n. drop n ys) o
-
-module _ {X K : Type 0} (mean : X → K) where
-  pub map_part : (a e : ℕ) (xs : List X) → between a e (map mean xs) ≡ map mean (between a e xs)
-  map_part a e xs = ap (take (e - a)) (drop-map mean a xs) ∙ take-map mean (e - a) (drop a xs)
-
-  pub coeff_part : (f : Ops K) (a e i : ℕ) (xs : List X) → i < e - a → coeff f (map mean (between a e xs)) i ≡ coeff f (map mean xs) (a + i)
-  coeff_part f a e i xs h =
-      ap (λ ks. coeff f ks i) (sym (map_part a e xs)) ∙ get_or-take (e - a) (drop a (map mean xs)) i f.nil h ∙ get_or-drop a (map mean xs) i f.nil
-
-  pub coeff_front : (f : Ops K) (e i : ℕ) (xs : List X) → i < e → coeff f (map mean (take e xs)) i ≡ coeff f (map mean xs) i
-  coeff_front f e i xs h = ap (λ ks. coeff f ks i) (sym (take-map mean e xs)) ∙ get_or-take e (map mean xs) i f.nil h
-
--- the quotient was written behind the place of the remainder, and then the remainder
-module _ {X K : Type 0} (f : Ops K) (laws : Laws f) (mean : X → K) (reduced : X → Type 0) (p : List X) (v : K) (width rows : ℕ) (was q is : List X)
-    (some : 0 < width) (fits : width ≤ rows) (room : rows ≤ length was) (long : length q ≡ rows - width) where
-  once : List X
-  once = put_mid width (rows - width) was q
-
-  quotient_once : between width rows once ≡ q
-  unfolding once
-  quotient_once = between-put_mid width (rows - width) was q rows (omega arith) long
-
-  pub division : length is ≡ length was → Stepped f mean reduced p v width q → Filled f mean reduced (carried f (map mean p) v (map mean (between width rows (put_mid width (rows - width) was q)))) is width
-      → drop width is ≡ drop width (put_mid width (rows - width) was q) → Division f mean reduced p v width rows was is
-  unfolding once
-  division kept steps rests beyond =
-      let same : between width rows is ≡ q = ap (take (rows - width)) beyond ∙ quotient_once in
-      let front : length (map mean (take width is)) ≡ width = length-map (take width is) mean ∙ length-take-le width is (omega arith) in
-      record {
-        divides = divides f laws (map mean p) (map mean (between width rows is)) (map mean (take width is)) width v some front
-            (subst (λ (l : List X). (k : ℕ) → coeff f (map mean l) k ≡ carried f (map mean p) v (map mean l) (k + width)) (sym same) steps.steps)
-            (λ k l. coeff_front mean f width k is l ∙ rests.means k l ∙ ap (λ l. carried f (map mean p) v (map mean l) k) (quotient_once ∙ sym same));
-        tidy = subst (AllByRecursion reduced) (sym (split_take width rows is fits)) (All-append reduced (take width is) (between width rows is) rests.tidy (subst (AllByRecursion reduced) (sym same) steps.tidy));
-        beyond = same_drop width rows is once fits beyond ∙ drop-put_mid width (rows - width) was q rows (omega arith) (omega arith) long;
-      }
-
--- which refusal a call meets
-module _ {X K : Type 0} (f : Ops K) (mean : X → K) (m n : ℕ) (matrix left right out : List X) (α β : K) (room : ℕ) where
-  abbrev pub choice : Bool → Bool → Bool → Bool → Option Told
-  choice x y z w = cond x (cond y (cond z (Some (22, [])) (cond w None (Some (16, [])))) (Some (13, []))) (Some (12, []))
-
-  same_shape : in_shape m n (length (map mean matrix)) m (length (map mean left)) (length (map mean right)) (length (map mean out))
-      ≡ in_shape m n (length matrix) m (length left) (length right) (length out)
-  same_shape = simp length-map
-
-  pub chosen : {x y z w : Bool} → in_range f.span m n ≡ x → in_shape m n (length matrix) m (length left) (length right) (length out) ≡ y
-      → (f.same α f.nil || f.same β f.nil) ≡ z → leb (reply_cells m n) room ≡ w
-      → proof_refusal f (claimed mean m n matrix [] left right out) α β room ≡ choice x y z w
-  chosen {x} {y} {z} {w} ex ey ez ew =
-      let shape : Bool = in_shape m n (length (map mean matrix)) m (length (map mean left)) (length (map mean right)) (length (map mean out)) in
-      let zeros : Bool = f.same α f.nil || f.same β f.nil in
-      let wide : Bool = leb (reply_cells m n) room in
-      ap (λ b. choice b shape zeros wide) ex ∙ ap (λ b. choice x b zeros wide) (same_shape ∙ ey) ∙ ap (λ b. choice x y b wide) ez ∙ ap (choice x y z) ew
-
-less_row : (m w : ℕ) → 1 ≤ m → m * w - w ≡ (m - 1) * w
-less_row zero w h = absurd (omega arith)
-less_row (suc m) w h = let g : suc m - 1 ≡ m = omega arith in rw g (omega arith)
-
-pub first_row : (m w : ℕ) → 1 ≤ m → w ≤ m * w
-first_row zero w h = absurd (omega arith)
-first_row (suc m) w h = omega arith
-
-pub whole_rows : (m w p : ℕ) → 1 ≤ m → 0 < w → p ≡ m * w → RowsFit p (m * w - w) w
-whole_rows m w p h some e =
-    let l : w ≤ m * w = first_row m w h in
-    record { some = some; row_less = omega arith; whole = ap (λ x. x % w) (less_row m w h) ∙ mul-mod_left (m - 1) w }
+-- a list between two others
+part_at : {X : Type 0} (front mid back : List X) (a b : ℕ) → length front ≡ a → b ≡ a + length mid → between a b (front ++ (mid ++ back)) ≡ mid
+part_at front mid back a b ea eb =
+    let long : length mid ≡ b - a = omega arith in
+    ap (take (b - a)) (drop_at front (mid ++ back) a ea) ∙ take_at mid back (b - a) long
 
 -- a reply from its four polynomials
 made : {K : Type 0} → List K → List K → List K → List K → Reply K
 made r q h1 h2 = record { r = r; q = q; h1 = h1; h2 = h2 }
 
-module _ {X K : Type 0} (f : Ops K) (mean : X → K) (reduced : X → Type 0) (m n : ℕ) (matrix left right out : List X) (α β v1 v2 : K) (was one two h2 : List X)
-    (some_rows : 1 ≤ m) (some_gates : 1 ≤ n) (roomy : reply_cells m n ≤ length was) (long1 : length one ≡ length was) (long2 : length two ≡ length was)
-    (long : length h2 ≡ reply_cells m n - (m * (3 * n + 1) + (6 * n + 1))) where
-  abbrev width : ℕ
-  width = 3 * n + 1
+-- four lists one behind another, as long as the polynomials of a reply
+module _ {X K : Type 0} (f : Ops K) (mean : X → K) (reduced : X → Type 0) (c : Claim X) (α β v1 v2 : K) (r q h1 h2 : List X)
+    (some_rows : 1 ≤ c.statement.m) (some_gates : 1 ≤ c.statement.n) (r_long : length r ≡ 3 * c.statement.n + 1) (q_long : length q ≡ (c.statement.m - 1) * (3 * c.statement.n + 1))
+    (h1_long : length h1 ≡ 6 * c.statement.n + 1) (h2_long : length h2 ≡ 2 * c.statement.n - 1) where
+  abbrev m : ℕ
+  m = c.statement.m
 
-  abbrev rows : ℕ
-  rows = m * (3 * n + 1)
+  abbrev n : ℕ
+  n = c.statement.n
 
-  abbrev end : ℕ
-  end = m * (3 * n + 1) + (6 * n + 1)
+  cells : List X
+  cells = r ++ (q ++ (h1 ++ h2))
 
-  abbrev total : ℕ
-  total = reply_cells m n
+  rows_long : length (r ++ q) ≡ m * (3 * n + 1)
+  rows_long = length-append r q ∙ omega (arith, (whole_rows m (3 * n + 1) (m * (3 * n + 1)) (length q) (length r) some_rows (omega arith) refl q_long r_long).row_less)
 
-  abbrev is : List X
-  is = put_mid end (total - end) two h2
+  end_long : length (r ++ q ++ h1) ≡ m * (3 * n + 1) + (6 * n + 1)
+  end_long = length-append (r ++ q) h1 ∙ omega (arith, rows_long)
 
-  abbrev claim : Claim K
-  claim = claimed mean m n matrix [] left right out
+  r_is : take (3 * n + 1) (map mean cells) ≡ map mean r
+  unfolding cells
+  r_is = take-map mean (3 * n + 1) cells ∙ ap (map mean) (take_at r (q ++ (h1 ++ h2)) (3 * n + 1) r_long)
 
-  fits : width ≤ rows
-  fits = first_row m width some_rows
+  q_is : between (3 * n + 1) (m * (3 * n + 1)) (map mean cells) ≡ map mean q
+  unfolding cells
+  q_is =
+      map_part mean (3 * n + 1) (m * (3 * n + 1)) cells
+      ∙ ap (map mean) (part_at r q (h1 ++ h2) (3 * n + 1) (m * (3 * n + 1)) r_long (omega (arith, rows_long, length-append r q)))
 
-  last_part : total ≡ end + length h2
-  last_part = omega arith
+  h1_is : between (m * (3 * n + 1)) (m * (3 * n + 1) + (6 * n + 1)) (map mean cells) ≡ map mean h1
+  unfolding cells
+  h1_is =
+      map_part mean (m * (3 * n + 1)) (m * (3 * n + 1) + (6 * n + 1)) cells
+      ∙ ap (map mean) (ap (between (m * (3 * n + 1)) (m * (3 * n + 1) + (6 * n + 1))) (sym (append_assoc r q (h1 ++ h2)))
+      ∙ part_at (r ++ q) h1 h2 (m * (3 * n + 1)) (m * (3 * n + 1) + (6 * n + 1)) rows_long (omega arith))
 
-  up_to : end ≤ length two
-  up_to = omega arith
+  h2_is : drop (m * (3 * n + 1) + (6 * n + 1)) (map mean cells) ≡ map mean h2
+  unfolding cells
+  h2_is =
+      drop-map mean (m * (3 * n + 1) + (6 * n + 1)) cells
+      ∙ ap (map mean) (ap (drop (m * (3 * n + 1) + (6 * n + 1))) (sym (append_assoc r q (h1 ++ h2)) ∙ sym (append_assoc (r ++ q) h1 h2))
+      ∙ drop_at (r ++ q ++ h1) h2 (m * (3 * n + 1) + (6 * n + 1)) end_long)
 
-  front : take total is ≡ take end two ++ h2
-  front = take-put_mid end (total - end) two h2 total last_part up_to
-
-  kept_front : take end is ≡ take end two
-  kept_front = take-put_mid_below end (total - end) two h2 end (le_refl end) up_to
-
-  part_of : (a b : ℕ) → b ≤ end → between a b (map mean (take total is)) ≡ map mean (between a b two)
-  part_of a b h =
-      map_part mean a b (take total is)
-      ∙ ap (map mean) (same_part a b b (take total is) is (le_refl b) (take-take b total is (omega arith)) ∙ same_part a b end is two h kept_front)
-
-  module _ (keeps : Between rows end one two) where
-    r_is : take width (map mean (take total is)) ≡ map mean (take width one)
-    r_is =
-        take-map mean width (take total is)
-        ∙ ap (map mean) (take-take width total is (omega (arith, fits)) ∙ same_take width end is two (omega (arith, fits)) kept_front ∙ same_take width rows two one fits keeps.before)
-
-    q_is : between width rows (map mean (take total is)) ≡ map mean (between width rows one)
-    q_is = part_of width rows (omega arith) ∙ ap (map mean) (same_part width rows rows two one (le_refl rows) keeps.before)
-
-  h2_is : drop end (map mean (take total is)) ≡ map mean h2
-  h2_is = drop-map mean end (take total is) ∙ ap (λ l. map mean (drop end l)) front ∙ ap (map mean) (drop_at (take end two) h2 end (length-take-le end two up_to))
-
-  long_part : (a b : ℕ) (xs : List X) → b ≤ length xs → length (map mean (between a b xs)) ≡ b - a
-  long_part a b xs h =
-      let l : b - a ≤ length (drop a xs) = omega (arith, length-drop a xs) in
-      length-map (between a b xs) mean ∙ length-take-le (b - a) (drop a xs) l
-
-  pub assembled : Division f mean reduced matrix α width rows was one → Between rows end one two
-      → Solution f mean reduced (3 * n) v1 (coeff f (map mean (take width one))) (wires f claim) (between rows end two)
-      → Solution f mean reduced (n - 1) v2 (left_scaled f claim β) (coeff f (map mean right)) h2
-      → Proved f mean reduced claim α β v1 v2 was is
+  is_made : made (map mean r) (map mean q) (map mean h1) (map mean h2) ≡ reply_in m n (map mean cells)
   unfolding made
-  assembled division keeps first second =
-      let h1 : List X = between rows end two in
-      let q : List X = between width rows one in
-      let r : List X = take width one in
-      let is_made : made (map mean r) (map mean q) (map mean h1) (map mean h2) ≡ reply_in m n (map mean (take total is)) =
-      ap (λ l. made l (map mean q) (map mean h1) (map mean h2)) (sym (r_is keeps)) ∙ ap (λ l. made (take width (map mean (take total is))) l (map mean h1) (map mean h2)) (sym (q_is keeps))
-      ∙ ap₂ (made (take width (map mean (take total is))) (between width rows (map mean (take total is)))) (sym (part_of rows end (le_refl end))) (sym h2_is) in
-      record {
-        replied = subst (λ (p : Reply K). Replied f claim p α β v1 v2) is_made (record {
-          honest = record { divided = division.divides; h1_is = first.solves; h2_is = second.solves };
-          free1 = first.free;
-          free2 = second.free;
-          r_long = length-map r mean ∙ length-take-le width one (omega (arith, fits));
-          q_long = long_part width rows one (omega arith) ∙ less_row m width some_rows;
-          h1_long = long_part rows end two up_to ∙ (omega arith);
-          h2_long = length-map h2 mean ∙ long ∙ (omega arith);
-        });
-        tidy = subst (AllByRecursion reduced) (sym front) (All-append reduced (take end two) h2
-            (subst (AllByRecursion reduced) (sym (split_take rows end two (omega arith))) (All-append reduced (take rows two) h1 (subst (AllByRecursion reduced) (sym keeps.before) division.tidy) first.tidy)) second.tidy);
-        beyond = drop-put_mid end (total - end) two h2 total (omega arith) up_to long ∙ same_drop end total two one (omega arith) keeps.beyond ∙ same_drop rows total one was (omega arith) division.beyond;
-      }
+  is_made =
+      ap (λ l. made l (map mean q) (map mean h1) (map mean h2)) (sym r_is) ∙ ap (λ l. made (take (3 * n + 1) (map mean cells)) l (map mean h1) (map mean h2)) (sym q_is)
+      ∙ ap₂ (made (take (3 * n + 1) (map mean cells)) (between (3 * n + 1) (m * (3 * n + 1)) (map mean cells))) (sym h1_is) (sym h2_is)
+
+  pub assembled : Divided f mean reduced c.statement.matrix.now α q r
+      → Solution f mean reduced (3 * n) v1 (coeff f (map mean r)) (wires f (claim_of mean c)) h1
+      → Solution f mean reduced (n - 1) v2 (left_scaled f (claim_of mean c) β) (coeff f (map mean c.wires.right.now)) h2
+      → Replied f (claim_of mean c) (reply_in m n (map mean (r ++ (q ++ (h1 ++ h2))))) α β v1 v2
+  unfolding made cells
+  assembled division first second =
+      subst (λ (p : Reply K). Replied f (claim_of mean c) p α β v1 v2) is_made (record {
+        honest = record {
+          divided = subst (λ (w : ℕ). Divides f (map mean c.statement.matrix.now) w α (map mean q) (map mean r)) r_long division.divides;
+          h1_is = first.solves;
+          h2_is = second.solves;
+        };
+        free1 = first.free;
+        free2 = second.free;
+        r_long = length-map r mean ∙ r_long;
+        q_long = length-map q mean ∙ q_long;
+        h1_long = length-map h1 mean ∙ h1_long;
+        h2_long = length-map h2 mean ∙ h2_long;
+      })

@@ -1,5 +1,5 @@
 -- What the direct check finds of a claim.
-use Rattle.std.specs.Prelude.{◌≡◌, ℕ, ◌<◌, Bool, Some, None, Ok, Err, Decides, Option, Result, ◌≢◌}
+use Rattle.std.specs.Prelude.{◌≡◌, ℕ, ◌<◌, Bool, List, ◌++◌, codes, decimal, Some, None, Ok, Err, Decides, Option, Result, ◌≢◌}
 use Rattle.field.specs.Field.{Ops}
 use Rattle.algebra.specs.Relation.{Claim, ZeroBelow, row_error, gate_error, Holds}
 use Rattle.prover.specs.Refusals.{told, refusal}
@@ -17,6 +17,12 @@ abbrev pub Correct : {K : Type 0} → Ops K → Claim K → Finding → Type 0
 Correct f s AllHold = Holds f s
 Correct f s (RowFails i) = FirstOff f s.m (row_error f s) (Some i)
 Correct f s (GateFails i) = ZeroBelow f s.m (row_error f s) × FirstOff f s.n (gate_error f s) (Some i)
+
+-- a finding in words, rows and gates counted from 0
+abbrev pub finding_text : Finding → List ℕ
+finding_text AllHold = codes "every row and every gate holds"
+finding_text (RowFails i) = codes "row " ++ decimal i ++ codes " is the first that fails"
+finding_text (GateFails i) = codes "every row holds; gate " ++ decimal i ++ codes " is the first that fails"
 
 -- what `audit` answers of a claim
 abbrev pub Audited : {K : Type 0} → Ops K → Claim K → Result Finding Refusal → Type 0

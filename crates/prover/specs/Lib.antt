@@ -3,3 +3,4 @@ pub mod Refusals
 pub mod Findings
 pub mod Replies
 pub mod Layouts
+pub mod Owned

@@ -1,11 +1,11 @@
 -- What a prover writes into a buffer, and when it refuses.
-use Rattle.std.specs.Prelude.{◌≡◌, ℕ, ◌+◌, ◌-◌, ◌*◌, ◌<◌, ◌≤◌, cond, ◌||◌, List, map, length, take, drop, Some, None, Option, nat_le}
+use Rattle.std.specs.Prelude.{◌≡◌, ℕ, ◌+◌, ◌-◌, ◌*◌, cond, ◌||◌, List, map, length, take, drop, Some, None, Option, nat_le}
 use Rattle.std.specs.List.{between, AllByRecursion}
 use Rattle.field.specs.Field.{Ops}
-use Rattle.algebra.specs.Polynomials.{coeff, Divides}
+use Rattle.algebra.specs.Polynomials.{coeff}
 use Rattle.algebra.specs.Relation.{Claim, width}
 use Rattle.algebra.specs.Proofs.{Reply, Solves, Honest}
-use Rattle.prover.specs.Claims.{in_range, in_shape, RowsFull, WiresFull}
+use Rattle.prover.specs.Claims.{in_range, in_shape}
 use Rattle.prover.specs.Refusals.{Told, told}
 use Rattle.prover.specs.declared.refusal.Refusal.TheVariants.{BadSize, BadLength, ShortBuffer, ZeroChallenge}
 
@@ -20,15 +20,6 @@ proof_refusal f s α β room =
     (cond (in_shape s.m s.n (length s.matrix) s.m (length s.left) (length s.right) (length s.out))
     (cond (f.same α f.nil || f.same β f.nil) (Some (told ZeroChallenge)) (cond (nat_le (reply_cells s.m s.n) room) None (Some (told ShortBuffer)))) (Some (told BadLength)))
     (Some (told BadSize))
-
--- the sizes and lengths of a claim that is proved into a buffer
-pub record Provable (span m n matrix left right out room : ℕ) : Type 0 where
-  pub rows : RowsFull m n matrix
-  pub wires : WiresFull n left right out
-  pub some_rows : 1 ≤ m
-  pub some_gates : 1 ≤ n
-  pub near : 6 * n ≤ span
-  pub roomy : reply_cells m n ≤ room
 
 -- r, q, h1 and h2, one after another: the cells before N, m·N, m·N + 6n + 1 and the end
 abbrev pub reply_in : {K : Type 0} → ℕ → ℕ → List K → Reply K
@@ -60,19 +51,3 @@ pub record Solution {X K : Type 0} (f : Ops K) (mean : X → K) (reduced : X →
   pub solves : Solves f d (coeff f (map mean cells)) a b
   pub free : coeff f (map mean cells) d ≡ v
   pub tidy : AllByRecursion reduced cells
-
--- the first cells stand for remainder and quotient of p by X^width - v and are reduced, and those from rows on are as they were
-pub record Division {X K : Type 0} (f : Ops K) (mean : X → K) (reduced : X → Type 0) (p : List X) (v : K) (width rows : ℕ) (was is : List X) : Type 0 where
-  pub divides : Divides f (map mean p) width v (map mean (between width rows is)) (map mean (take width is))
-  pub tidy : AllByRecursion reduced (take rows is)
-  pub beyond : drop rows is ≡ drop rows was
-
--- the cells from rows on, before end, are changed, and no others
-pub record Between (rows end : ℕ) {X : Type 0} (was is : List X) : Type 0 where
-  pub before : take rows is ≡ take rows was
-  pub beyond : drop end is ≡ drop end was
-
--- the first i cells stand for t 0, t 1, .., and are reduced
-pub record Filled {X K : Type 0} (f : Ops K) (mean : X → K) (reduced : X → Type 0) (t : ℕ → K) (xs : List X) (i : ℕ) : Type 0 where
-  pub means : (k : ℕ) → k < i → coeff f (map mean xs) k ≡ t k
-  pub tidy : AllByRecursion reduced (take i xs)

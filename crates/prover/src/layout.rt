@@ -1,6 +1,6 @@
-ghost use Rattle.std.specs.Prelude.{◌≡◌, ◌≤◌, true, false, Ok, Err};
+ghost use Rattle.std.specs.Prelude.{◌≡◌, ◌≤◌, ◌↔◌, true, false, length, Ok, Err, IsSome, IfSome};
 ghost use Rattle.prover.specs.Claims.{in_range as sizes_fit};
-ghost use Rattle.prover.specs.Layouts.{layout_of};
+ghost use Rattle.prover.specs.Layouts.{layout_of, InOrder, SplitAt};
 ghost use Rattle.prover.specs.Replies.{reply_cells};
 ghost use Rattle.prover.specs.declared.refusal.Refusal.TheVariants.{BadSize};
 
@@ -36,11 +36,34 @@ impl Layout {
             h2_end: reply_cells(m, n),
         })
     }
+
+    // The polynomials that lie in the cells, or `None` where an end is past the next or past the cells.
+    pub fn split<'a, F>(self, cells: &'a [F]) -> Option<Reply<'a, F>>
+        ensures found { IsSome result ↔ InOrder self (length cells.now) }
+        ensures parts { IfSome result (SplitAt self cells.now) }
+    {
+        Some(Reply {
+            r: cells.get(..self.r_end)?,
+            q: cells.get(self.r_end..self.q_end)?,
+            h1: cells.get(self.q_end..self.h1_end)?,
+            h2: cells.get(self.h1_end..self.h2_end)?,
+        })
+    }
+}
+
+// The polynomials of a reply.
+#[derive(Clone, Copy)]
+pub struct Reply<'a, F> {
+    pub r: &'a [F],
+    pub q: &'a [F],
+    pub h1: &'a [F],
+    pub h2: &'a [F],
 }
 
 // The cells of a reply.
 pub(crate) fn reply_cells(m: usize, n: usize) -> usize
-    requires { (m ≤ 64) × (n ≤ 85) }
+    requires few_rows { m ≤ 64 }
+    requires few_gates { n ≤ 85 }
     ensures { result ≡ reply_cells m n }
 {
     m * (3 * n + 1) + 8 * n

@@ -1,11 +1,15 @@
 #![tactic(auto)]
 
+mod claim;
+mod full;
 mod layout;
-mod proof;
+mod owned;
 mod refusal;
 mod relation;
+mod scale;
 
-pub use layout::Layout;
-pub use proof::prove;
+pub use claim::{Challenges, Claim, Statement, Wires};
+pub use layout::{Layout, Reply};
+pub use owned::OwnedClaim;
 pub use refusal::{Refusal, in_range};
-pub use relation::{Finding, audit, check};
+pub use relation::Finding;

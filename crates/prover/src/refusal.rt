@@ -1,8 +1,11 @@
-ghost use Rattle.std.specs.Prelude.{◌≡◌, ◌≤◌};
-ghost use Rattle.prover.specs.Refusals.{told};
-ghost use Rattle.prover.specs.Claims.{in_range as sizes_fit, in_shape as lengths_fit};
+ghost use Rattle.std.specs.Prelude.{◌≡◌, Some};
+ghost use Rattle.std.specs.Fmt.{padded};
+ghost use Rattle.prover.specs.Refusals.{told, refusal_text};
+ghost use Rattle.prover.specs.Claims.{in_range as sizes_fit};
 
 use field::Field;
+use std::error::Error;
+use std::fmt;
 
 // Why a claim is not looked at, or not proved.
 #[derive(Clone, Copy, PartialEq, Eq, Debug)]
@@ -31,6 +34,24 @@ impl Refusal {
     }
 }
 
+impl fmt::Display for Refusal {
+    ghost output = { λ e. Some (refusal_text e) };
+
+    ghost styled_output = { λ e spec. Some (padded spec (refusal_text e)) };
+
+    fn fmt<W: fmt::Write>(&self, f: &mut fmt::Formatter<W>) -> fmt::Result {
+        f.pad(match self {
+            Refusal::BadSize =>
+                "m is outside 1 to 64, n is outside 1 to 85, or 6n is above the field's span",
+            Refusal::BadLength => "the matrix, the vector or a wire has the wrong length",
+            Refusal::ShortBuffer => "the buffer is too short",
+            Refusal::ZeroChallenge => "a challenge is zero",
+        })
+    }
+}
+
+impl Error for Refusal {}
+
 pub const MOST_ROWS: usize = 64;
 
 pub const MOST_GATES: usize = 85;
@@ -39,21 +60,5 @@ pub const MOST_GATES: usize = 85;
 pub fn in_range<F: Field>(m: usize, n: usize) -> bool
     ensures { result ≡ sizes_fit F.Field.ops.span m n }
 {
-    1 <= m && m <= MOST_ROWS && 1 <= n && n <= MOST_GATES && 6 * n <= F::span_value() as usize
-}
-
-// Whether the five lengths are those that the sizes ask for.
-pub(crate) fn in_shape(
-    m: usize,
-    n: usize,
-    matrix: usize,
-    vector: usize,
-    left: usize,
-    right: usize,
-    out: usize,
-) -> bool
-    requires { (m ≤ 64) × (n ≤ 85) }
-    ensures { result ≡ lengths_fit m n matrix vector left right out }
-{
-    matrix == m * (3 * n + 1) && vector == m && left == n && right == n && out == n
+    1 <= m && m <= MOST_ROWS && 1 <= n && n <= MOST_GATES && 6 * n <= F::SPAN as usize
 }
