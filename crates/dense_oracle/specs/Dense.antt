@@ -1,12 +1,12 @@
 -- What a dense oracle means.
-use Rattle.std.specs.Prelude.{ℕ, min, List, [], map, length, take, vec_items}
+use Rattle.std.specs.Prelude.{ℕ, min, List, [], map, length}
+use Rattle.oracle.specs.Shelves.{lists_of}
 use Rattle.oracle.specs.Standing.{Standing}
-use Rattle.oracle.specs.Tables.{parts}
 use Rattle.dense_oracle.specs.declared.store.DenseOracle.{DenseOracle}
 
 -- the values of the polynomials that stand
 abbrev pub held : {X : Type 0} → DenseOracle X → List (List X)
-held s = parts (vec_items s.storage) (take s.table.len s.table.entries)
+held s = map (λ p. p.items) (lists_of s.shelf)
 
 -- the polynomials by what their values mean, the cells in all, and the rule: a list needs a cell for each coefficient
 abbrev pub dense_stand : {X K : Type 0} → DenseOracle X → (X → K) → Standing K

@@ -1,68 +1,51 @@
--- What the invariant of a dense oracle says of its meaning.
-use Rattle.std.specs.Prelude.{◌≡◌, ℕ, ◌+◌, ◌-◌, ◌*◌, ◌<◌, ◌≤◌, List, [], ◌∷◌, map, length, get_or, take, drop, None, vec_items, vec_len, slice_index_or, refl}
-use Rattle.std.proofs.Common.{ap, ap₂, ◌∙◌, arith}
-use Rattle.std.proofs.lemmas.List.{length-append, length-map, length-take-le, get_or-map}
-use Rattle.oracle.specs.Standing.{Sound, needed, fix_refusal}
-use Rattle.oracle.specs.declared.table.Entry.{Entry}
+-- What a dense oracle's shelf says of its meaning.
+use Rattle.std.specs.Prelude.{◌≡◌, ℕ, ◌+◌, ◌≤◌, true, List, [], ◌∷◌, map, length, Some, None, option_map, slice_get, refl}
+use Rattle.std.proofs.Common.{ap, ap₂, ◌∙◌, sym, arith}
+use Rattle.std.proofs.lemmas.Bool.Decides.{nat_tests}
+use Rattle.std.proofs.lemmas.List.{length-append, length-map}
+use Rattle.std.proofs.lemmas.Option.{slice_get-map}
+use Rattle.oracle.specs.Admission.{refusal_of}
+use Rattle.oracle.specs.Shelves.{fits, items_of, lists_of, room_of}
+use Rattle.oracle.specs.Standing.{Sound, needed, free_of}
+use Rattle.oracle.specs.Tables.{Kept}
 use Rattle.oracle.proofs.Admitted.{admitted}
-use Rattle.oracle.proofs.Chains as chains
+use Rattle.oracle.proofs.Shelves as shelves
 use Rattle.dense_oracle.specs.Dense.{held, dense_stand}
 use Rattle.dense_oracle.specs.declared.store.DenseOracle.{DenseOracle}
 
-needed_map : {X K : Type 0} (mean : X → K) (ps : List (List X)) → needed length (map (map mean) ps) ≡ needed length ps
-needed_map mean [] = refl
-needed_map mean (p ∷ ps) = ap₂ ◌+◌ (length-map p mean) (needed_map mean ps)
+needed_items : {X K : Type 0} (mean : X → K) (ps : List (Kept X)) → needed length (map (map mean) (map (λ p. p.items) ps)) ≡ length (items_of ps)
+needed_items mean [] = refl
+needed_items mean (p ∷ ps) = ap₂ ◌+◌ (length-map p.items mean) (needed_items mean ps) ∙ sym (length-append p.items (items_of ps))
+
+-- what is stored has cells
+pub stored_cells : {X : Type 0} (s : DenseOracle X) → length (items_of (lists_of s.shelf)) ≤ s.cells
+stored_cells s = omega (arith, shelves.stored s.shelf, s.stocked)
 
 module _ {X K : Type 0} (s : DenseOracle X) (mean : X → K) where
-  most : s.filled ≤ 16384 * s.table.len
-  most = chains.filled_most s.table.entries s.table.len s.filled s.wide s.few s.chain
+  -- the polynomials have as many coefficients as items are stored
+  pub used : needed length (map (map mean) (held s)) ≡ length (items_of (lists_of s.shelf))
+  used = needed_items mean (lists_of s.shelf)
 
-  -- the filled cells are stored
-  pub stored : s.filled ≤ vec_len s.storage
-  stored = omega (arith, s.room, s.stocked, s.few, most)
-
-  -- the polynomials have as many coefficients as are filled
-  pub used : needed length (map (map mean) (held s)) ≡ s.filled
-  used =
-      let xs = vec_items s.storage in
-      needed_map mean (held s)
-      ∙ omega (arith, chains.parts_weigh length length-append xs 0 (take s.table.len s.table.entries) s.filled s.chain, length-take-le s.filled xs (omega (arith, stored, s.storage.ok.0)))
-
-  pub count : length (map (map mean) (held s)) ≡ s.table.len
-  count = length-map (held s) (map mean) ∙ chains.parts_long s.table.entries s.table.len s.filled s.wide s.few s.chain (vec_items s.storage)
+  pub count : length (map (map mean) (held s)) ≡ length (lists_of s.shelf)
+  count = length-map (held s) (map mean) ∙ length-map (lists_of s.shelf) (λ p. p.items)
 
   pub sound : Sound (dense_stand s mean)
   sound = record {
-    few = omega (arith, count, s.few);
+    few = omega (arith, count, shelves.few s.shelf);
     small = s.small;
-    room = omega (arith, used, s.room);
+    room = omega (arith, used, stored_cells s);
     ruled = λ p h. omega arith;
   }
 
-  -- where no refusal fits, there is a free entry, and room in the storage
-  pub record Roomy (p : List X) : Type 0 where
-    pub few : s.table.len < 16
-    pub short : length p ≤ 16384
-    pub room : s.filled + length p ≤ s.cells
-    pub stored : s.filled + length p ≤ vec_len s.storage
+  -- a list of n coefficients that no refusal fits has room on the shelf
+  pub fits_where_none : (n : ℕ) → refusal_of (length (lists_of s.shelf)) n n (free_of (dense_stand s mean)) ≡ None → fits (lists_of s.shelf) (room_of s.shelf) n ≡ true
+  fits_where_none n none =
+      let a = admitted (length (lists_of s.shelf)) n n (free_of (dense_stand s mean)) none in
+      let few = a.few in
+      let short = a.short in
+      let room : length (items_of (lists_of s.shelf)) + n ≤ room_of s.shelf = omega (arith, a.room, used, stored_cells s, shelves.most s.shelf, s.stocked) in
+      grind (arith, nat_tests)
 
-  pub roomy : (p : List X) → fix_refusal (dense_stand s mean) (map mean p) ≡ None → Roomy p
-  roomy p none =
-      let a = admitted (length (map (map mean) (held s))) (length (map mean p)) (length (map mean p)) (s.cells - needed length (map (map mean) (held s))) none in
-      let l = length-map p mean in
-      record {
-        few = omega (arith, a.few, count);
-        short = omega (arith, a.short);
-        room = omega (arith, a.room, used, s.room);
-        stored = omega (arith, a.few, a.short, a.room, count, used, s.room, s.stocked, most);
-      }
-
-  -- the cells of polynomial k are stored
-  pub entry_stored : (k : ℕ) (d : Entry) → k < s.table.len → (get_or s.table.entries k d).start + (get_or s.table.entries k d).count ≤ vec_len s.storage
-  entry_stored k d h = omega (arith, stored, chains.entry_within s.table.entries s.table.len s.filled s.wide s.few s.chain k d h)
-
-  pub list_at : (k : ℕ) (d : Entry) → k < s.table.len → slice_index_or (map (map mean) (held s)) k [] ≡ map mean (take (get_or s.table.entries k d).count (drop (get_or s.table.entries k d).start (vec_items s.storage)))
-  list_at k d h =
-      let l : k < length (held s) = omega (arith, count, length-map (held s) (map mean)) in
-      get_or-map (map mean) (held s) k [] [] l
-      ∙ ap (map mean) (chains.part_at s.table.entries s.table.len s.filled s.wide s.few s.chain (vec_items s.storage) k d h)
+  -- list k means what its items p mean
+  pub held_at : (k : ℕ) (p : List X) → option_map (λ q. q.items) (slice_get (lists_of s.shelf) k) ≡ Some p → slice_get (map (map mean) (held s)) k ≡ Some (map mean p)
+  held_at k p h = slice_get-map (map mean) (held s) k ∙ ap (option_map (map mean)) (slice_get-map (λ q. q.items) (lists_of s.shelf) k ∙ h)

@@ -1,4 +1,5 @@
 pub mod Admission
 pub mod Faults
+pub mod Shelves
 pub mod Standing
 pub mod Tables

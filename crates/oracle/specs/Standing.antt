@@ -1,10 +1,11 @@
 -- What an oracle means, and what each of its calls answers and leaves.
-use Rattle.std.specs.Prelude.{ℕ, ◌+◌, ◌-◌, ◌^◌, ◌<◌, ◌≤◌, cond, List, [], ◌∷◌, ◌++◌, length, Some, None, Ok, Err, Option, Result, nat_le, nat_lt, slice_index_or}
+use Rattle.std.specs.Prelude.{ℕ, ◌+◌, ◌-◌, ◌^◌, ◌<◌, ◌≤◌, cond, List, [], ◌∷◌, ◌++◌, length, Some, None, Ok, Err, Option, Result, nat_lt, slice_index_or}
 use Rattle.field.specs.Field.{Ops}
 use Rattle.algebra.specs.Polynomials.{value}
 use Rattle.polynomial.specs.Refusals.{Told}
+use Rattle.oracle.specs.Admission.{refusal_of}
 use Rattle.oracle.specs.Faults.{told}
-use Rattle.oracle.specs.declared.fault.OracleFault.TheVariants.{NoRoom, Full, TooLong, Absent}
+use Rattle.oracle.specs.declared.fault.OracleFault.TheVariants.{TooLong, Absent}
 
 -- the polynomials that stand, in the order in which they were fixed, the cells in all, and the rule: the cells that a list needs
 pub record Standing (K : Type 0) : Type 0 where
@@ -42,9 +43,7 @@ needs_answer s p = cond (nat_lt 16384 (length p)) (Err (told TooLong)) (Ok (s.ru
 
 -- the refusal that fits a list to be fixed: 62, 63, 61, in that order
 abbrev pub fix_refusal : {K : Type 0} → Standing K → List K → Option Told
-fix_refusal s p =
-    cond (nat_le 16 (length s.lists)) (Some (told Full))
-    (cond (nat_lt 16384 (length p)) (Some (told TooLong)) (cond (nat_lt (free_of s) (s.rule p)) (Some (told (NoRoom (s.rule p) (free_of s)))) None))
+fix_refusal s p = refusal_of (length s.lists) (length p) (s.rule p) (free_of s)
 
 -- an answer that says no more than whether a refusal fits
 abbrev pub answer_by : Option Told → Result (Unit {0}) Told

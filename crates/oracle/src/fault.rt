@@ -1,5 +1,8 @@
-ghost use Rattle.std.specs.Prelude.{◌≡◌};
-ghost use Rattle.oracle.specs.Faults.{told};
+ghost use Rattle.std.specs.Prelude.{◌≡◌, Some};
+ghost use Rattle.oracle.specs.Faults.{fault_text, told};
+
+use std::error::Error;
+use std::fmt;
 
 // Why an oracle refuses a call.
 #[derive(Clone, Copy, PartialEq, Eq, Debug)]
@@ -27,3 +30,20 @@ impl OracleFault {
         }
     }
 }
+
+impl fmt::Display for OracleFault {
+    ghost output = { λ fault. Some (fault_text fault) };
+
+    fn fmt<W: fmt::Write>(&self, f: &mut fmt::Formatter<W>) -> fmt::Result {
+        match self {
+            OracleFault::NoRoom { needed, free } => {
+                write!(f, "{needed} cells are needed, and {free} are free")
+            }
+            OracleFault::Full => write!(f, "sixteen polynomials stand"),
+            OracleFault::TooLong => write!(f, "more than 16384 coefficients"),
+            OracleFault::Absent => write!(f, "there is no such polynomial"),
+        }
+    }
+}
+
+impl Error for OracleFault {}

@@ -11,12 +11,13 @@ use field::Field;
 mod admission;
 mod fault;
 mod generic;
+mod shelf;
 mod table;
 
-pub use admission::{admit, coefficients};
+pub use admission::{admit, counted_cells};
 pub use fault::OracleFault;
 pub use generic::recall;
-pub use table::{Entry, Table, counted_cells, storage_len};
+pub use shelf::Shelf;
 
 // The most polynomials that stand, and the most coefficients that one has.
 pub const MOST_LISTS: usize = 16;

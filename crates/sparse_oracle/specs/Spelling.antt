@@ -1,8 +1,8 @@
 -- Terms against the lists that they spell.
-use Rattle.std.specs.Prelude.{◌≡◌, ℕ, zero, suc, ◌+◌, ◌<◌, ◌≤◌, Bool, true, false, cond, ◌⊎◌, List, [], ◌∷◌, ◌++◌, map, length, drop, ◌==◌, ◌≢◌, slice_index_or, refl}
-use Rattle.std.proofs.Common.{sym, ap, ap₂, ◌∙◌, inl, inr, add-one, arith, eq-eqb, ne_eqb}
+use Rattle.std.specs.Prelude.{◌≡◌, ℕ, zero, suc, ◌+◌, ◌<◌, ◌≤◌, Bool, true, false, not, cond, ◌⊎◌, List, [], ◌∷◌, ◌++◌, map, length, take, ◌==◌, ◌≢◌, refl}
+use Rattle.std.proofs.Common.{sym, ap, ap₂, ◌∙◌, inl, inr, add-zero, arith, eq-eqb, ne_eqb}
 use Rattle.std.proofs.Math.Decide.{dec_lt}
-use Rattle.std.proofs.lemmas.List.{at_drop_more}
+use Rattle.std.proofs.lemmas.List.Sums.{count_by-le-length, sum_by-append, sum_by-cons, sum_by-take-le}
 use Rattle.std.proofs.lemmas.Bool.Decides.{nat_tests}
 use Rattle.field.specs.Field.{Ops, Laws}
 use Rattle.sparse_oracle.specs.Terms.{nonzero, term_of, terms_of, coefficients_of, climbs, spread}
@@ -37,32 +37,20 @@ pub after : {X : Type 0} (t : Term X) (ts : List (Term X)) (a b : ℕ) → t.exp
 after t ts a b o h = ap (λ e. climbs (suc e) ts b) (sym o) ∙ (step t a ts b h).rest
 
 pub nonzero_le : {K : Type 0} (f : Ops K) (ks : List K) → nonzero f ks ≤ length ks
-nonzero_le f [] = omega arith
-nonzero_le f (k ∷ ks) = go (f.same k f.nil) (nonzero_le f ks)
-  where
-    go : (b : Bool) → nonzero f ks ≤ length ks → cond b 0 1 + nonzero f ks ≤ suc (length ks)
-    go true h = omega arith
-    go false h = omega arith
+nonzero_le f ks = count_by-le-length (λ k. not (f.same k f.nil)) ks
 
 pub nonzero_append : {K : Type 0} (f : Ops K) (ks ls : List K) → nonzero f (ks ++ ls) ≡ nonzero f ks + nonzero f ls
-nonzero_append f [] ls = omega arith
-nonzero_append f (k ∷ ks) ls = omega (arith, nonzero_append f ks ls)
+nonzero_append f ks ls = sum_by-append (λ k. cond (not (f.same k f.nil)) 1 0) ks ls
 
--- one value more of those that are left to be looked at, where b says whether it is zero
-module _ {X K : Type 0} (f : Ops K) (xs : List X) (i : ℕ) (y : X) (b : Bool) (within : i < length xs) (is : y ≡ slice_index_or xs i y) where
-  pub nonzero_step : (g : X → K) → b ≡ f.same (g y) f.nil → nonzero f (map g (drop i xs)) ≡ cond b 0 1 + nonzero f (map g (drop (i + 1) xs))
-  nonzero_step g e =
-      at_drop_more (λ ys. nonzero f (map g ys)) xs i y within
-      ∙ ap (λ z. cond (f.same (g z) f.nil) 0 1 + nonzero f (map g (drop (i + 1) xs))) (sym is)
-      ∙ ap (λ z. cond z 0 1 + nonzero f (map g (drop (i + 1) xs))) (sym e)
+pub nonzero_cons : {K : Type 0} (f : Ops K) (k : K) (ks : List K) → nonzero f (k ∷ ks) ≡ cond (f.same k f.nil) 0 1 + nonzero f ks
+nonzero_cons f k ks = sum_by-cons (λ k. cond (not (f.same k f.nil)) 1 0) k ks ∙ ap (λ n. n + nonzero f ks) (go (f.same k f.nil))
+  where
+    go : (b : Bool) → cond (not b) 1 0 ≡ cond {A = ℕ} b 0 1
+    go true = refl
+    go false = refl
 
-  pub terms_step : (mean : X → K) → b ≡ f.same (mean y) f.nil → terms_of f mean i (drop i xs) ≡ cond b (terms_of f mean (i + 1) (drop (i + 1) xs)) (term_of i y ∷ terms_of f mean (i + 1) (drop (i + 1) xs))
-  terms_step mean e =
-      let rest = drop (i + 1) xs in
-      at_drop_more (terms_of f mean i) xs i y within
-      ∙ ap (λ z. terms_of f mean i (z ∷ rest)) (sym is)
-      ∙ ap (λ z. cond z (terms_of f mean (suc i) rest) (term_of i y ∷ terms_of f mean (suc i) rest)) (sym e)
-      ∙ ap (λ n. cond b (terms_of f mean n rest) (term_of i y ∷ terms_of f mean n rest)) (sym (add-one i))
+pub nonzero_take : {K : Type 0} (f : Ops K) (ks : List K) (n : ℕ) → nonzero f (take n ks) ≤ nonzero f ks
+nonzero_take f ks n = sum_by-take-le (λ k. cond (not (f.same k f.nil)) 1 0) ks n
 
 module _ {X K : Type 0} (f : Ops K) (mean : X → K) where
   pub length_spread : (n a : ℕ) (ts : List (Term X)) → length (spread f mean n a ts) ≡ n
@@ -95,12 +83,27 @@ module _ {X K : Type 0} (f : Ops K) (mean : X → K) where
 
   pub terms_count : (a : ℕ) (xs : List X) → length (terms_of f mean a xs) ≡ nonzero f (map mean xs)
   terms_count a [] = refl
-  terms_count a (x ∷ xs) = go (f.same (mean x) f.nil) (terms_count (suc a) xs)
+  terms_count a (x ∷ xs) = go (f.same (mean x) f.nil) (terms_count (suc a) xs) ∙ sym (nonzero_cons f (mean x) (map mean xs))
     where
       go : (e : Bool) → length (terms_of f mean (suc a) xs) ≡ nonzero f (map mean xs)
           → length (cond e (terms_of f mean (suc a) xs) (term_of a x ∷ terms_of f mean (suc a) xs)) ≡ cond e 0 1 + nonzero f (map mean xs)
       go true ih = omega arith
       go false ih = omega arith
+
+  -- one value more
+  pub terms_push : (a : ℕ) (xs : List X) (x : X) → terms_of f mean a (xs ++ (x ∷ [])) ≡ terms_of f mean a xs ++ cond (f.same (mean x) f.nil) [] (term_of (a + length xs) x ∷ [])
+  terms_push a [] x = ap (λ n. cond (f.same (mean x) f.nil) [] (term_of n x ∷ [])) (sym (add-zero a))
+  terms_push a (y ∷ ys) x =
+      go (f.same (mean y) f.nil) (terms_push (suc a) ys x ∙ ap (λ n. terms_of f mean (suc a) ys ++ cond (f.same (mean x) f.nil) [] (term_of n x ∷ [])) (omega arith))
+    where
+      more : List (Term X)
+      more = cond (f.same (mean x) f.nil) [] (term_of (a + suc (length ys)) x ∷ [])
+
+      go : (b : Bool) → terms_of f mean (suc a) (ys ++ (x ∷ [])) ≡ terms_of f mean (suc a) ys ++ more
+          → cond b (terms_of f mean (suc a) (ys ++ (x ∷ []))) (term_of a y ∷ terms_of f mean (suc a) (ys ++ (x ∷ [])))
+          ≡ cond b (terms_of f mean (suc a) ys) (term_of a y ∷ terms_of f mean (suc a) ys) ++ more
+      go true h = h
+      go false h = ap (λ ts. term_of a y ∷ ts) h
 
   module _ (laws : Laws f) where
     same_nil : f.same f.nil f.nil ≡ true
@@ -109,6 +112,9 @@ module _ {X K : Type 0} (f : Ops K) (mean : X → K) where
         go : (b : Bool) → (b ≡ false → f.nil ≢ f.nil) → b ≡ true
         go true h = refl
         go false h = absurd (h refl refl)
+
+    nil_first : (ks : List K) → nonzero f (f.nil ∷ ks) ≡ nonzero f ks
+    nil_first ks = nonzero_cons f f.nil ks ∙ ap (λ z. cond z 0 1 + nonzero f ks) same_nil ∙ omega arith
 
     -- the terms of a list spell it
     pub terms_spell : (a : ℕ) (xs : List X) → spread f mean (length xs) a (terms_of f mean a xs) ≡ map mean xs
@@ -124,15 +130,16 @@ module _ {X K : Type 0} (f : Ops K) (mean : X → K) where
     pub spread_count : (n a b : ℕ) (ts : List (Term X)) → a + n ≡ b → climbs a ts b ≡ true → nonzero f (spread f mean n a ts) ≡ nonzero f (coefficients_of mean ts)
     spread_count zero a b [] e h = refl
     spread_count zero a b (t ∷ ts) e h = let s = step t a ts b h in let u = s.from in let v = s.below in absurd (omega arith)
-    spread_count (suc n) a b [] e h =
-        ap (λ z. cond z 0 1 + nonzero f (spread f mean n (suc a) [])) same_nil ∙ omega (arith, spread_count n (suc a) b [] (omega arith) refl)
+    spread_count (suc n) a b [] e h = nil_first (spread f mean n (suc a) []) ∙ spread_count n (suc a) b [] (omega arith) refl
     spread_count (suc n) a b (t ∷ ts) e h =
         elim (view t ts a b h) [
           | inl o ↦
               ap (nonzero f) (spread_hit n a t ts o)
+              ∙ nonzero_cons f (mean t.coefficient) (spread f mean n (suc a) ts)
               ∙ ap (λ m. cond (f.same (mean t.coefficient) f.nil) 0 1 + m) (spread_count n (suc a) b ts (omega arith) (after t ts a b o h))
+              ∙ sym (nonzero_cons f (mean t.coefficient) (coefficients_of mean ts))
           | inr o ↦
               ap (nonzero f) (spread_skip n a b (t ∷ ts) o)
-              ∙ ap (λ z. cond z 0 1 + nonzero f (spread f mean n (suc a) (t ∷ ts))) same_nil
-              ∙ omega (arith, spread_count n (suc a) b (t ∷ ts) (omega arith) o)
+              ∙ nil_first (spread f mean n (suc a) (t ∷ ts))
+              ∙ spread_count n (suc a) b (t ∷ ts) (omega arith) o
         ]

@@ -1,56 +1,49 @@
 -- Lists of terms, each with the number of coefficients that it spreads to.
-use Rattle.std.specs.Prelude.{◌≡◌, ℕ, zero, suc, ◌+◌, ◌<◌, true, ◌&&◌, List, [], ◌∷◌, ◌++◌, length, slice_index_or, refl}
-use Rattle.std.proofs.Common.{ap, ap₂, ◌∙◌, arith}
+use Rattle.std.specs.Prelude.{◌≡◌, ℕ, zero, suc, ◌+◌, true, ◌&&◌, List, [], ◌∷◌, ◌++◌, Some, slice_get, refl}
+use Rattle.std.proofs.Common.{ap, ap₂, ◌∙◌, sym, arith}
+use Rattle.std.proofs.lemmas.List.{map-append}
+use Rattle.std.proofs.lemmas.List.Folds.{list_all-append}
+use Rattle.std.proofs.lemmas.Option.{none-some, same_Some}
 use Rattle.field.specs.Field.{Ops, Laws}
+use Rattle.oracle.specs.Shelves.{items_of}
 use Rattle.oracle.specs.Standing.{needed}
+use Rattle.oracle.specs.Tables.{Kept}
 use Rattle.sparse_oracle.specs.Terms.{Spells, all_climb, climbs, coefficients_of, nonzero, spread, spreads}
 use Rattle.sparse_oracle.specs.declared.term.Term.{Term}
-use Rattle.sparse_oracle.specs.Spelling.{length_spread, spread_count}
+use Rattle.sparse_oracle.specs.Spelling.{length_spread, nonzero_append, spread_count}
 
 pub needed_push : {K : Type 0} (rule : List K → ℕ) (ps : List (List K)) (p : List K) → needed rule (ps ++ (p ∷ [])) ≡ needed rule ps + rule p
 needed_push rule [] p = omega arith
 needed_push rule (q ∷ ps) p = omega (arith, needed_push rule ps p)
 
 -- what ascending says of the first list
-record First {X : Type 0} (ts : List (Term X)) (n : ℕ) (tss : List (List (Term X))) (ns : List ℕ) : Type 0 where
-  here : climbs 0 ts n ≡ true
-  rest : all_climb tss ns ≡ true
+record First {X : Type 0} (p : Kept (Term X)) (ps : List (Kept (Term X))) : Type 0 where
+  here : climbs 0 p.items p.long ≡ true
+  rest : all_climb ps ≡ true
 
-first : {X : Type 0} (ts : List (Term X)) (n : ℕ) (tss : List (List (Term X))) (ns : List ℕ) → all_climb (ts ∷ tss) (n ∷ ns) ≡ true → First ts n tss ns
-first ts n tss ns h = record { here = grind (arith, h); rest = grind (arith, h) }
+first : {X : Type 0} (p : Kept (Term X)) (ps : List (Kept (Term X))) → all_climb (p ∷ ps) ≡ true → First p ps
+first p ps h = record { here = grind (arith, h); rest = grind (arith, h) }
 
-pub climb_push : {X : Type 0} (tss : List (List (Term X))) (ns : List ℕ) (ts : List (Term X)) (n : ℕ) → length tss ≡ length ns → all_climb tss ns ≡ true → climbs 0 ts n ≡ true → all_climb (tss ++ (ts ∷ [])) (ns ++ (n ∷ [])) ≡ true
-climb_push [] [] ts n e h k = ap (λ b. b && true) k
-climb_push [] (m ∷ ns) ts n e h k = absurd (omega arith)
-climb_push (us ∷ tss) [] ts n e h k = absurd (omega arith)
-climb_push (us ∷ tss) (m ∷ ns) ts n e h k =
-    let s = first us m tss ns h in ap₂ ◌&&◌ s.here (climb_push tss ns ts n (omega arith) s.rest k)
+pub climb_push : {X : Type 0} (ps : List (Kept (Term X))) (p : Kept (Term X)) → all_climb ps ≡ true → climbs 0 p.items p.long ≡ true → all_climb (ps ++ (p ∷ [])) ≡ true
+climb_push ps p h k = list_all-append (λ q. climbs 0 q.items q.long) ps (p ∷ []) ∙ ap₂ ◌&&◌ h (ap (λ b. b && true) k)
+
+pub climbs_at : {X : Type 0} (ps : List (Kept (Term X))) (k : ℕ) (p : Kept (Term X)) → all_climb ps ≡ true → slice_get ps k ≡ Some p → climbs 0 p.items p.long ≡ true
+climbs_at [] k p h e = absurd (none-some p e)
+climbs_at (q ∷ ps) zero p h e = ap (λ r. climbs 0 r.items r.long) (sym (same_Some q p e)) ∙ (first q ps h).here
+climbs_at (q ∷ ps) (suc k) p h e = climbs_at ps k p (first q ps h).rest e
 
 module _ {X K : Type 0} (f : Ops K) (mean : X → K) where
-  pub length_spreads : (tss : List (List (Term X))) (ns : List ℕ) → length tss ≡ length ns → length (spreads f mean tss ns) ≡ length tss
-  length_spreads [] ns e = refl
-  length_spreads (ts ∷ tss) [] e = absurd (omega arith)
-  length_spreads (ts ∷ tss) (n ∷ ns) e = ap suc (length_spreads tss ns (omega arith))
-
-  pub spreads_push : (tss : List (List (Term X))) (ns : List ℕ) (ts : List (Term X)) (n : ℕ) → length tss ≡ length ns → spreads f mean (tss ++ (ts ∷ [])) (ns ++ (n ∷ [])) ≡ spreads f mean tss ns ++ (spread f mean n 0 ts ∷ [])
-  spreads_push [] [] ts n e = refl
-  spreads_push [] (m ∷ ns) ts n e = absurd (omega arith)
-  spreads_push (us ∷ tss) [] ts n e = absurd (omega arith)
-  spreads_push (us ∷ tss) (m ∷ ns) ts n e = ap (λ r. spread f mean m 0 us ∷ r) (spreads_push tss ns ts n (omega arith))
-
-  -- list k is what its terms spell
-  pub spreads_at : (tss : List (List (Term X))) (ns : List ℕ) (k : ℕ) → all_climb tss ns ≡ true → k < length tss → Spells f mean (slice_index_or tss k []) (slice_index_or (spreads f mean tss ns) k [])
-  spreads_at [] ns k h w = absurd (omega arith)
-  spreads_at (ts ∷ tss) [] k h w = absurd (grind (arith, h))
-  spreads_at (ts ∷ tss) (n ∷ ns) zero h w =
-      let l = length_spread f mean n 0 ts in
-      record { ascend = ap (climbs 0 ts) l ∙ (first ts n tss ns h).here; filled = ap (λ m. spread f mean m 0 ts) l }
-  spreads_at (ts ∷ tss) (n ∷ ns) (suc k) h w = spreads_at tss ns k (first ts n tss ns h).rest (omega arith)
+  -- a list is what its terms spell
+  pub spells_from_climbs : (p : Kept (Term X)) → climbs 0 p.items p.long ≡ true → Spells f mean p.items (spread f mean p.long 0 p.items)
+  spells_from_climbs p h =
+      let l = length_spread f mean p.long 0 p.items in
+      record { ascend = ap (climbs 0 p.items) l ∙ h; filled = ap (λ n. spread f mean n 0 p.items) l }
 
   -- the lists need as many cells as their terms that are not zero
-  pub spreads_needed : Laws f → (tss : List (List (Term X))) (ns : List ℕ) → all_climb tss ns ≡ true → needed (nonzero f) (spreads f mean tss ns) ≡ needed (λ ts. nonzero f (coefficients_of mean ts)) tss
-  spreads_needed laws [] ns h = refl
-  spreads_needed laws (ts ∷ tss) [] h = absurd (grind (arith, h))
-  spreads_needed laws (ts ∷ tss) (n ∷ ns) h =
-      let s = first ts n tss ns h in
-      ap₂ ◌+◌ (spread_count f mean laws n 0 n ts (omega arith) s.here) (spreads_needed laws tss ns s.rest)
+  pub spreads_needed : Laws f → (ps : List (Kept (Term X))) → all_climb ps ≡ true → needed (nonzero f) (spreads f mean ps) ≡ nonzero f (coefficients_of mean (items_of ps))
+  spreads_needed laws [] h = refl
+  spreads_needed laws (p ∷ ps) h =
+      let s = first p ps h in
+      ap₂ ◌+◌ (spread_count f mean laws p.long 0 p.long p.items (omega arith) s.here) (spreads_needed laws ps s.rest)
+      ∙ sym (nonzero_append f (coefficients_of mean p.items) (coefficients_of mean (items_of ps)))
+      ∙ ap (nonzero f) (sym (map-append (λ t. mean t.coefficient) p.items (items_of ps)))

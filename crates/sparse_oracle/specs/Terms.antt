@@ -1,12 +1,13 @@
 -- Lists of coefficients by their terms.
-use Rattle.std.specs.Prelude.{◌≡◌, ℕ, zero, suc, ◌+◌, Bool, true, false, cond, ◌&&◌, List, [], ◌∷◌, map, length, ◌==◌, nat_le, nat_lt}
+use Rattle.std.specs.Prelude.{◌≡◌, ℕ, zero, suc, Bool, true, not, cond, ◌&&◌, List, [], ◌∷◌, map, length, count_by, ◌==◌, nat_le, nat_lt}
+use Rattle.std.specs.List.{list_all}
 use Rattle.field.specs.Field.{Ops}
+use Rattle.oracle.specs.Tables.{Kept}
 use Rattle.sparse_oracle.specs.declared.term.Term.{Term}
 
 -- how many elements of a list are not zero
 abbrev pub nonzero : {K : Type 0} → Ops K → List K → ℕ
-nonzero f [] = 0
-nonzero f (k ∷ ks) = cond (f.same k f.nil) 0 1 + nonzero f ks
+nonzero f ks = count_by (λ k. not (f.same k f.nil)) ks
 
 -- the term with an exponent and a coefficient
 abbrev pub term_of : {X : Type 0} → ℕ → X → Term X
@@ -37,14 +38,10 @@ pub record Spells {X K : Type 0} (f : Ops K) (mean : X → K) (ts : List (Term X
   pub ascend : climbs 0 ts (length p) ≡ true
   pub filled : spread f mean (length p) 0 ts ≡ p
 
--- the exponents of each list of terms ascend from 0 on below the number that goes with it
-abbrev pub all_climb : {X : Type 0} → List (List (Term X)) → List ℕ → Bool
-all_climb [] ns = true
-all_climb (ts ∷ tss) [] = false
-all_climb (ts ∷ tss) (n ∷ ns) = climbs 0 ts n && all_climb tss ns
+-- the exponents of each list of terms ascend from 0 on below the number of its coefficients
+abbrev pub all_climb : {X : Type 0} → List (Kept (Term X)) → Bool
+all_climb ps = list_all (λ p. climbs 0 p.items p.long) ps
 
--- each list of terms as a list of as many coefficients as go with it
-abbrev pub spreads : {X K : Type 0} → Ops K → (X → K) → List (List (Term X)) → List ℕ → List (List K)
-spreads f mean [] ns = []
-spreads f mean (ts ∷ tss) [] = []
-spreads f mean (ts ∷ tss) (n ∷ ns) = spread f mean n 0 ts ∷ spreads f mean tss ns
+-- each list of terms as the list of its coefficients
+abbrev pub spreads : {X K : Type 0} → Ops K → (X → K) → List (Kept (Term X)) → List (List K)
+spreads f mean ps = map (λ p. spread f mean p.long 0 p.items) ps

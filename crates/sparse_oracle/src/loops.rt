@@ -1,30 +1,20 @@
-ghost use Rattle.std.specs.Prelude.{◌≡◌, ◌+◌, ◌≤◌, List, ◌++◌, map, length, take};
+ghost use Rattle.std.specs.Prelude.{◌≡◌, ◌≤◌, true, List, [], ◌∷◌, ◌++◌, map, length};
 ghost use Rattle.algebra.specs.Polynomials.{value};
+ghost use Rattle.oracle.specs.Shelves.{fits, lists_of, room_of};
+ghost use Rattle.oracle.specs.Tables.{kept};
 ghost use Rattle.sparse_oracle.specs.Terms.{Spells, coefficients_of, nonzero, terms_of};
 
 use crate::term::Term;
 use field::Field;
+use oracle::Shelf;
 use polynomial::power;
-
-// Whether a value stands for zero.
-fn is_zero<F: Field>(x: F) -> bool
-    ensures { result ≡ F.Field.ops.same (F.Field.mean x) F.Field.ops.nil }
-{
-    x.same(F::zero())
-}
 
 // How many values of a list are not zero.
 pub(crate) fn count_values<F: Field>(p: &[F]) -> usize
     ensures means { result ≡ nonzero F.Field.ops (map F.Field.mean p.now) }
     ensures within { result ≤ length (map F.Field.mean p.now) }
 {
-    let mut count = 0;
-    for i in 0..p.len() {
-        if !is_zero(p[i]) {
-            count += 1;
-        }
-    }
-    count
+    p.iter().filter(|x| !x.is_zero()).count()
 }
 
 // How many terms have a coefficient other than zero.
@@ -32,31 +22,28 @@ pub(crate) fn count_terms<F: Field>(terms: &[Term<F>]) -> usize
     ensures means { result ≡ nonzero F.Field.ops (coefficients_of F.Field.mean terms.now) }
     ensures within { result ≤ length terms.now }
 {
-    let mut count = 0;
-    for i in 0..terms.len() {
-        if !is_zero(terms[i].coefficient) {
-            count += 1;
-        }
-    }
-    count
+    terms
+        .iter()
+        .filter(|term| !term.coefficient.is_zero())
+        .count()
 }
 
-// Writes the terms of `p` from the cell `at` on, and answers how many they are.
-pub(crate) fn write_terms<F: Field>(terms: &mut [Term<F>], at: usize, p: &[F]) -> usize
+// Puts up the terms of `p`, one for each coefficient other than zero.
+pub(crate) fn write_terms<F: Field>(shelf: &mut Shelf<Term<F>>, p: &[F])
     requires short { length p.now ≤ 16384 }
-    requires room { at + nonzero F.Field.ops (map F.Field.mean p.now) ≤ length terms.old }
-    ensures counts { result ≡ nonzero F.Field.ops (map F.Field.mean p.now) }
-    ensures wrote { take (at + result) terms.new ≡ take at terms.old ++ terms_of F.Field.ops F.Field.mean 0 p.now }
+    requires room { fits (lists_of shelf.old) (room_of shelf.old) (nonzero F.Field.ops (map F.Field.mean p.now)) ≡ true }
+    ensures lists { lists_of shelf.new ≡ lists_of shelf.old ++ kept (length p.now) (terms_of F.Field.ops F.Field.mean 0 p.now) ∷ [] }
+    ensures same_room { room_of shelf.new ≡ room_of shelf.old }
 {
-    let mut end = at;
-    for i in 0..p.len() {
-        let coefficient = p[i];
-        if !is_zero(coefficient) {
-            terms[end] = Term::new(i, coefficient);
-            end += 1;
+    let no_terms = [];
+    let begun = shelf.append(p.len(), &no_terms);
+    prove!(begun);
+    for (i, &coefficient) in p.iter().enumerate() {
+        if !coefficient.is_zero() {
+            let pushed = shelf.push(Term::new(i, coefficient));
+            prove!(pushed);
         }
     }
-    end - at
 }
 
 // The value at `x` of the polynomial that the terms spell. The power of `x` that one term has is raised to that of the
@@ -68,8 +55,7 @@ pub(crate) fn value_of<F: Field>(terms: &[Term<F>], x: F) -> F
     let mut sum = F::zero();
     let mut reached = 0usize;
     let mut raised = F::one();
-    for i in 0..terms.len() {
-        let term = terms[i];
+    for term in terms {
         let degree = term.degree();
         raised = raised.times(power(x, degree.saturating_sub(reached)));
         reached = degree;

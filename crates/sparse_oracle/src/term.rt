@@ -25,6 +25,6 @@ impl<F: Field> Term<F> {
     pub(crate) fn degree(self) -> usize
         ensures { result ≡ self.exponent }
     {
-        self.exponent as usize
+        usize::from(self.exponent)
     }
 }

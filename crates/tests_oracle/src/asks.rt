@@ -9,8 +9,7 @@ pub fn word<O: Oracle<Elem = Mersenne31>>(
     k: usize,
     x: u32,
 ) -> Result<u32, OracleFault> {
-    let value = oracle.ask(k, Mersenne31(x))?;
-    Ok(value.0)
+    oracle.ask(k, Mersenne31(x)).map(|value| value.0)
 }
 
 // What can be seen of an oracle: the free cells, and the values at 2 of the first polynomial, the second and the sixteenth.

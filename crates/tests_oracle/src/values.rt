@@ -84,10 +84,7 @@ fn recalls<O: Oracle<Elem = Mersenne31>>(rt: &impl Abort, oracle: &mut O) -> Res
     assert_eq!(rt; value.0, 124);
     assert_eq!(rt; word(oracle, 0, 2), Ok(124));
     assert_eq!(rt; word(oracle, 1, 2), Err(OracleFault::Absent));
-    let refused = match recall(oracle, &[Mersenne31(1); 9], Mersenne31(2)) {
-        Ok(_) => None,
-        Err(fault) => Some(fault),
-    };
+    let refused = recall(oracle, &[Mersenne31(1); 9], Mersenne31(2)).err();
     assert_eq!(rt; refused, Some(OracleFault::NoRoom { needed: 9, free: 8 }));
     assert_eq!(rt; word(oracle, 0, 2), Err(OracleFault::Absent));
     Ok(())

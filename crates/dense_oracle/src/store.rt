@@ -1,0 +1,69 @@
+ghost use Rattle.std.specs.Prelude.{◌≡◌, ◌^◌, ◌<◌, min};
+ghost use Rattle.oracle.specs.Shelves.{room_of};
+
+use field::Field;
+use oracle::{MOST_COEFFICIENTS, Oracle, OracleFault, Shelf, admit, counted_cells};
+use polynomial::value_at;
+use std::alloc::{AllocError, Global};
+
+// An oracle that stores every coefficient, on a shelf that has as much room as they can ever need.
+#[derive(Drop)]
+pub struct DenseOracle<F> {
+    shelf: Shelf<F>,
+    cells: u32,
+    ghost small: { cells < 2 ^ 32 },
+    ghost stocked: { room_of shelf ≡ min cells 262144 },
+}
+
+impl<F: Field> DenseOracle<F> {
+    ghost use Rattle.std.specs.Prelude.{◌≡◌, IfOk};
+    ghost use Rattle.dense_oracle.specs.Dense.{dense_stand, fresh};
+
+    // An oracle in which no polynomial stands. Cells beyond 2^32 - 1 are not counted.
+    pub fn new(heap: Global, cells: u64) -> Result<DenseOracle<F>, AllocError>
+        ensures { IfOk result (λ s. dense_stand s F.Field.mean ≡ fresh cells) }
+    {
+        let cells = counted_cells(cells);
+        let shelf = Shelf::new(heap, cells)?;
+        Ok(DenseOracle { shelf, cells })
+    }
+}
+
+impl<F: Field> Oracle for DenseOracle<F> {
+    ghost use Rattle.dense_oracle.specs.Dense.{dense_stand};
+    ghost use Rattle.dense_oracle.specs.Stands;
+
+    type Elem = F;
+
+    ghost stand = { λ s f. dense_stand s f.mean };
+
+    ghost sound = { λ s. Stands.sound s F.Field.mean };
+
+    fn clear(&mut self) {
+        self.shelf.clear();
+    }
+
+    fn needs(&self, p: &[F]) -> Result<u32, OracleFault> {
+        if p.len() > MOST_COEFFICIENTS {
+            return Err(OracleFault::TooLong);
+        }
+        Ok(p.len() as u32)
+    }
+
+    #[tactic(auto, using(crate::specs::Stands::stored_cells))]
+    fn free(&self) -> u32 {
+        self.cells - self.shelf.items().len() as u32
+    }
+
+    fn fix(&mut self, p: &[F]) -> Result<(), OracleFault> {
+        admit(self.shelf.standing(), p.len(), p.len() as u64, self.free())?;
+        let fits = self.shelf.append(p.len(), p);
+        prove!(fits);
+        Ok(())
+    }
+
+    fn ask(&self, k: usize, x: F) -> Result<F, OracleFault> {
+        let p = self.shelf.list(k).ok_or(OracleFault::Absent)?;
+        Ok(value_at(p, x))
+    }
+}
