@@ -6,11 +6,15 @@ ghost use Rattle.field.specs.Field.{power as power_of};
 ghost use Rattle.algebra.specs.Sums.{sub};
 ghost use Rattle.algebra.specs.Polynomials.{value};
 ghost use Rattle.equations.specs.Tests.{wires_from, settled as settled_test, accepts};
+ghost use Rattle.equations.specs.Places.{place_of};
+
+mod polynomial_name;
 
 use field::Field;
-use inner_product::InnerProductClaim;
+use inner_product::{InnerProductClaim, Values};
 use oracle::Oracle;
 use polynomial::power;
+use polynomial_name::Polynomial;
 
 // Whether E1, E2 and E3 hold for the polynomials 0 to 8 of the oracle: M, x, wl, wr, wo, r, q, h1, h2. All
 // thirteen values are asked for, also where E1 fails. Where z is zero, or 6n above the span, the answer is no.
@@ -21,35 +25,38 @@ pub fn hold<O: Oracle>(oracle: &O, n: u32, alpha: O::Elem, beta: O::Elem, z: O::
         return false;
     };
     let next = O::Elem::gamma().times(z);
-    let matrix = value_of(oracle, 0, z);
-    let quotient = value_of(oracle, 6, z);
-    let remainder = value_of(oracle, 5, z);
-    let h1 = value_of(oracle, 7, z);
-    let h1_next = value_of(oracle, 7, next);
-    let left = value_of(oracle, 2, y);
-    let right = value_of(oracle, 3, y);
-    let out = value_of(oracle, 4, y);
-    let vector = value_of(oracle, 1, alpha);
-    let h2 = value_of(oracle, 8, z);
-    let h2_next = value_of(oracle, 8, next);
-    let scaled = value_of(oracle, 2, beta.times(z));
-    let gates = value_of(oracle, 4, beta);
+    let matrix = value_of(oracle, Polynomial::Matrix, z);
+    let quotient = value_of(oracle, Polynomial::Quotient, z);
+    let remainder = value_of(oracle, Polynomial::Remainder, z);
+    let left = value_of(oracle, Polynomial::Left, y);
+    let right = value_of(oracle, Polynomial::Right, y);
+    let out = value_of(oracle, Polynomial::Out, y);
+    let vector = value_of(oracle, Polynomial::Vector, alpha);
+    let gates = value_of(oracle, Polynomial::Out, beta);
+    let rows = Values {
+        ya: remainder,
+        yb: wires_at(n, y, left, right, out),
+        yh: value_of(oracle, Polynomial::H1, z),
+        yh2: value_of(oracle, Polynomial::H1, next),
+    };
+    let products = Values {
+        ya: value_of(oracle, Polynomial::Left, beta.times(z)),
+        yb: right,
+        yh: value_of(oracle, Polynomial::H2, z),
+        yh2: value_of(oracle, Polynomial::H2, next),
+    };
     let d = n as usize;
-    let wires = wires_at(n, y, left, right, out);
     let first = divides(n, alpha, z, matrix, quotient, remainder);
-    let second = settled(3 * d, vector, z, remainder, wires, h1, h1_next);
-    let third = settled(d.saturating_sub(1), gates, z, scaled, right, h2, h2_next);
+    let second = settled(3 * d, vector, z, rows);
+    let third = settled(d.saturating_sub(1), gates, z, products);
     first && (second && third)
 }
 
-// The value of polynomial k at x; one that does not stand is the empty list.
-fn value_of<O: Oracle>(oracle: &O, k: usize, x: O::Elem) -> O::Elem
-    ensures { O.Elem.Field.mean result ≡ value O.Elem.Field.ops (slice_index_or (O.Oracle.stand oracle.now O.Elem.Field).lists k []) (O.Elem.Field.mean x) }
+// The value of a polynomial at x; one that does not stand is the empty list.
+fn value_of<O: Oracle>(oracle: &O, which: Polynomial, x: O::Elem) -> O::Elem
+    ensures { O.Elem.Field.mean result ≡ value O.Elem.Field.ops (slice_index_or (O.Oracle.stand oracle.now O.Elem.Field).lists (place_of which) []) (O.Elem.Field.mean x) }
 {
-    match oracle.ask(k, x) {
-        Ok(y) => y,
-        Err(_) => O::Elem::zero(),
-    }
+    oracle.ask(which.place(), x).unwrap_or(O::Elem::zero())
 }
 
 // Whether `matrix = quotient·(z^N - alpha) + remainder`, where N = 3n + 1.
@@ -71,11 +78,11 @@ fn wires_at<F: Field>(n: u32, y: F, left: F, right: F, out: F) -> F
 }
 
 // An inner-product claim stated and settled; one that cannot be stated does not hold.
-fn settled<F: Field>(d: usize, c: F, z: F, ya: F, yb: F, yh: F, yh2: F) -> bool
-    ensures { result ≡ settled_test F.Field.ops d (F.Field.mean c) (F.Field.mean z) (F.Field.mean ya) (F.Field.mean yb) (F.Field.mean yh) (F.Field.mean yh2) }
+fn settled<F: Field>(d: usize, c: F, z: F, at: Values<F>) -> bool
+    ensures { result ≡ settled_test F.Field.ops d (F.Field.mean c) (F.Field.mean z) (F.Field.mean at.ya) (F.Field.mean at.yb) (F.Field.mean at.yh) (F.Field.mean at.yh2) }
 {
     match InnerProductClaim::state(d, c, z) {
-        Ok(claim) => claim.settle(ya, yb, yh, yh2),
+        Ok(claim) => claim.settle(at),
         Err(_) => false,
     }
 }

@@ -2,11 +2,13 @@
 #![tactic(auto)]
 
 ghost use Rattle.std.specs.Prelude.{◌≡◌, true, false, Some, None, Ok, Err, Decides};
-ghost use Rattle.inner_product.specs.Faults.{told, refusal};
+ghost use Rattle.inner_product.specs.Faults.{told, words, refusal};
 ghost use Rattle.inner_product.specs.Settling.{settles, Settles};
 
 use field::Field;
 use polynomial::power;
+use std::error::Error;
+use std::fmt;
 
 // Why a claim is not stated.
 #[derive(Clone, Copy, PartialEq, Eq, Debug)]
@@ -29,6 +31,28 @@ impl ClaimFault {
     }
 }
 
+impl fmt::Display for ClaimFault {
+    ghost output = { λ e. Some (words e) };
+
+    fn fmt<W: fmt::Write>(&self, f: &mut fmt::Formatter<W>) -> fmt::Result {
+        f.write_str(match self {
+            ClaimFault::TooWide => "2d is above the field's span",
+            ClaimFault::ZeroPoint => "z is zero",
+        })
+    }
+}
+
+impl Error for ClaimFault {}
+
+// The values that settle a claim: ya = a(z), yb = b(1/z), yh = h(z) and yh2 = h(gamma·z).
+#[derive(Clone, Copy)]
+pub struct Values<F> {
+    pub ya: F,
+    pub yb: F,
+    pub yh: F,
+    pub yh2: F,
+}
+
 // The claim that the coefficient at d of a(X)·X^d·b(1/X) is c, to be tested at z. It is spent by `settle` or `withdraw`.
 pub struct InnerProductClaim<F: Field> {
     d: usize,
@@ -46,10 +70,10 @@ impl<F: Field> InnerProductClaim<F> {
         ] }
     {
         // Half the span, since 2d may not fit a word.
-        if d > F::span_value() as usize / 2 {
+        if d > F::SPAN as usize / 2 {
             return Err(ClaimFault::TooWide);
         }
-        if z.same(F::zero()) {
+        if z.is_zero() {
             return Err(ClaimFault::ZeroPoint);
         }
         Ok(InnerProductClaim {
@@ -60,12 +84,12 @@ impl<F: Field> InnerProductClaim<F> {
         })
     }
 
-    // Whether `gamma^d·yh - yh2 = z^d·(ya·yb - c)`: with ya = a(z), yb = b(1/z), yh = h(z) and yh2 = h(gamma·z).
-    pub fn settle(self, ya: F, yb: F, yh: F, yh2: F) -> bool
-        ensures tests { result ≡ settles F.Field.ops self.d (F.Field.mean self.c) (F.Field.mean self.z) (F.Field.mean ya) (F.Field.mean yb) (F.Field.mean yh) (F.Field.mean yh2) }
-        ensures decides { Decides result (Settles F.Field.ops self.d (F.Field.mean self.c) (F.Field.mean self.z) (F.Field.mean ya) (F.Field.mean yb) (F.Field.mean yh) (F.Field.mean yh2)) }
+    // Whether `gamma^d·yh - yh2 = z^d·(ya·yb - c)`.
+    pub fn settle(self, at: Values<F>) -> bool
+        ensures tests { result ≡ settles F.Field.ops self.d (F.Field.mean self.c) (F.Field.mean self.z) (F.Field.mean at.ya) (F.Field.mean at.yb) (F.Field.mean at.yh) (F.Field.mean at.yh2) }
+        ensures decides { Decides result (Settles F.Field.ops self.d (F.Field.mean self.c) (F.Field.mean self.z) (F.Field.mean at.ya) (F.Field.mean at.yb) (F.Field.mean at.yh) (F.Field.mean at.yh2)) }
     {
-        let said = balances(self.d, self.c, self.z, ya, yb, yh, yh2);
+        let said = self.balances(at);
         self.spend();
         said
     }
@@ -76,6 +100,15 @@ impl<F: Field> InnerProductClaim<F> {
     {
         self.spend();
         false
+    }
+
+    // The test of the equation.
+    fn balances(&self, at: Values<F>) -> bool
+        ensures { result ≡ settles F.Field.ops self.now.d (F.Field.mean self.now.c) (F.Field.mean self.now.z) (F.Field.mean at.ya) (F.Field.mean at.yb) (F.Field.mean at.yh) (F.Field.mean at.yh2) }
+    {
+        let left = power(F::gamma(), self.d).times(at.yh).plus(at.yh2.neg());
+        let right = power(self.z, self.d).times(at.ya.times(at.yb).plus(self.c.neg()));
+        left.same(right)
     }
 
     // Lets the claim go as spent.
@@ -96,13 +129,4 @@ impl<F: Field> Drop for InnerProductClaim<F> {
             spent: _,
         } = self;
     }
-}
-
-// The test of that equation.
-fn balances<F: Field>(d: usize, c: F, z: F, ya: F, yb: F, yh: F, yh2: F) -> bool
-    ensures { result ≡ settles F.Field.ops d (F.Field.mean c) (F.Field.mean z) (F.Field.mean ya) (F.Field.mean yb) (F.Field.mean yh) (F.Field.mean yh2) }
-{
-    let left = power(F::gamma(), d).times(yh).plus(yh2.neg());
-    let right = power(z, d).times(ya.times(yb).plus(c.neg()));
-    left.same(right)
 }

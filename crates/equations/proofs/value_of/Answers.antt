@@ -1,9 +1,9 @@
-use Rattle.std.proofs.Common.{◌∙◌}
-use Rattle.oracle.specs.Faults.{told}
-use Rattle.equations.proofs.Absent.{absent_nil}
+use Rattle.std.proofs.Common.{ap, ◌∙◌}
+use Rattle.equations.proofs.Absent.{read}
 use Rattle.equations.proofs.value_of.Goals as goal
 
-pub returns-in-Err : goal.returns-in-Err
-returns-in-Err g c =
+pub returns : goal.returns
+returns g c =
     let f = g.O.Elem.Field in
-    c.zero.ensures.means ∙ absent_nil f.ops (g.O.Oracle.stand c.args.oracle.now f) c.args.k (f.mean c.args.x) (told c.in-Err.field-0) c.in-Err.ensures.answer
+    rw (← c.place.ensures) (ap f.mean c.unwrap_or.ensures
+    ∙ read f.ops f.mean (g.O.Oracle.stand c.args.oracle.now f) c.place.result (f.mean c.args.x) c.zero.result c.zero.ensures.means c.ask.result c.ask.ensures.answer)
