@@ -1,5 +1,5 @@
 -- What a session's refusals tell.
-use Rattle.std.specs.Prelude.{[], ◌∷◌, Some, None, Ok, Err, Option, Result}
+use Rattle.std.specs.Prelude.{ℕ, List, [], ◌∷◌, Some, None, Ok, Err, Option, Result, codes}
 use Rattle.polynomial.specs.Refusals.{Told}
 use Rattle.oracle.specs.Faults as oracle
 use Rattle.ledger.specs.declared.fault.SessionFault.{SessionFault}
@@ -19,6 +19,17 @@ told (Oracle e) = holding (oracle.told e)
 told DrawOutOfTurn = (21, [])
 told ZeroChallenge = (22, [])
 told JudgeOutOfTurn = (31, [])
+
+-- the words for a refusal
+abbrev pub words : SessionFault → List ℕ
+words OutOfTurn = codes "no such polynomial is due"
+words BadSize = codes "m, n or 6n is out of bounds"
+words BadLength = codes "M or x has the wrong length"
+words TooMany = codes "too many coefficients for this turn"
+words (Oracle e) = codes "the oracle refuses"
+words DrawOutOfTurn = codes "no challenge is due"
+words ZeroChallenge = codes "the challenge is zero"
+words JudgeOutOfTurn = codes "judge is not due"
 
 -- a session's answer as it is told: yes, or the refusal by its number and values
 abbrev pub told_answer : Result (Unit {0}) SessionFault → Result (Unit {0}) Told

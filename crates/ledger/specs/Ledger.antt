@@ -21,7 +21,7 @@ pub data Move (K : Type 0) : Type 0 where
 
 -- the meaning of a call, with that of the values
 abbrev pub move_of : {E K : Type 0} → (E → K) → Call E → Move K
-move_of mean (Open m n matrix vector) = opens m n (map mean matrix.now) (map mean vector.now)
+move_of mean (Open s) = opens s.m s.n (map mean s.matrix.now) (map mean s.vector.now)
 move_of mean (Put p) = puts (map mean p.now)
 move_of mean (Draw x) = draws (mean x)
 move_of mean Judge = judges

@@ -1,8 +1,10 @@
-ghost use Rattle.std.specs.Prelude.{◌≡◌};
-ghost use Rattle.ledger.specs.Faults.{told};
+ghost use Rattle.std.specs.Prelude.{◌≡◌, Some};
+ghost use Rattle.ledger.specs.Faults.{told, words};
 ghost use Rattle.ledger.specs.declared.fault.SessionFault.TheVariants.{Oracle as held};
 
 use oracle::OracleFault;
+use std::error::Error;
+use std::fmt;
 
 // Why a session refuses a call.
 #[derive(Clone, Copy, PartialEq, Eq, Debug)]
@@ -42,6 +44,25 @@ impl SessionFault {
         }
     }
 }
+
+impl fmt::Display for SessionFault {
+    ghost output = { λ e. Some (words e) };
+
+    fn fmt<W: fmt::Write>(&self, f: &mut fmt::Formatter<W>) -> fmt::Result {
+        f.write_str(match self {
+            SessionFault::OutOfTurn => "no such polynomial is due",
+            SessionFault::BadSize => "m, n or 6n is out of bounds",
+            SessionFault::BadLength => "M or x has the wrong length",
+            SessionFault::TooMany => "too many coefficients for this turn",
+            SessionFault::Oracle(_) => "the oracle refuses",
+            SessionFault::DrawOutOfTurn => "no challenge is due",
+            SessionFault::ZeroChallenge => "the challenge is zero",
+            SessionFault::JudgeOutOfTurn => "judge is not due",
+        })
+    }
+}
+
+impl Error for SessionFault {}
 
 impl From<OracleFault> for SessionFault {
     ghost from_gives = { λ e r. r ≡ held e };

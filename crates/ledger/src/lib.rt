@@ -7,9 +7,11 @@ use field::Field;
 
 mod call;
 mod fault;
+mod transcript;
 
 pub use call::Call;
 pub use fault::SessionFault;
+pub use transcript::Transcript;
 
 // Does nothing; its contract is the law over all runs, for every oracle over the field.
 pub fn law<F: Field>()

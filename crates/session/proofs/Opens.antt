@@ -10,7 +10,7 @@ use Rattle.ledger.specs.Faults.{told, told_answer}
 use Rattle.ledger.specs.Ledger.{in_shape, room_refusal, open_refusal}
 use Rattle.ledger.specs.declared.fault.SessionFault.{SessionFault}
 use Rattle.ledger.specs.declared.fault.SessionFault.TheVariants.{BadSize, BadLength, Oracle}
-use Rattle.session.specs.Sessions.{Fits}
+use Rattle.session.specs.Statements.{FitsLists}
 
 pub needs_given : {K : Type 0} (st : Standing K) (p : List K) (t : Told) → length p ≤ 16384 → Err t ≡ needs_answer st p → ⊥
 needs_given st p t l h = grind (arith, nat_tests)
@@ -38,7 +38,7 @@ module _ {K : Type 0} (f : Ops K) (st : Standing K) (m n : ℕ) (matrix vector :
   roomy true w u h =
       let z : ◌≡◌ {A = ℕ} 0 1 = cc (h ∙ ap (λ y. answer_by (cond y (Some (told (Oracle (NoRoom (st.rule matrix + st.rule vector) (free_of st))))) None)) w) in absurd (omega arith)
 
-  pub fits_if : (r : Result (Unit {0}) SessionFault) → told_answer r ≡ answer_by (room_refusal st matrix vector) → IfOk r (λ u. Fits st m n matrix vector)
+  pub fits_if : (r : Result (Unit {0}) SessionFault) → told_answer r ≡ answer_by (room_refusal st matrix vector) → IfOk r (λ u. FitsLists st m n matrix vector)
   fits_if (Err e) h = tt
   fits_if (Ok u) h =
       let room = roomy (ltb (free_of st) (st.rule matrix + st.rule vector)) refl u h in

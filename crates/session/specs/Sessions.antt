@@ -1,8 +1,7 @@
 -- What a session stands for, and what a call makes of it.
-use Rattle.std.specs.Prelude.{◌≡◌, ℕ, ◌≤◌, List, None, Option, Result}
+use Rattle.std.specs.Prelude.{Option, Result}
 use Rattle.field.specs.declared.Field.{Ghosts as FieldGhosts}
 use Rattle.polynomial.specs.Refusals.{Told}
-use Rattle.oracle.specs.Standing.{Standing, emptied, appended, fix_refusal}
 use Rattle.oracle.specs.declared.Oracle.{Ghosts as OracleGhosts}
 use Rattle.ledger.specs.Ledger.{Move}
 use Rattle.ledger.specs.States.{State, accepted, Tried, Made}
@@ -36,10 +35,3 @@ Tries o f refusal c s t r = Tried refusal (state_of o f s) (accepted f.ops (stat
 -- the call c made on a session s: the session t after it, and the answer r
 abbrev pub Makes : {O E : Type 0} → (o : OracleGhosts O E) → (f : FieldGhosts E) → Move f.K → Session O E o f → Session O E o f → Result (Unit {0}) SessionFault → Type 0
 Makes o f c s t r = Made f.ops c (state_of o f s) (state_of o f t) r
-
--- the sizes of an open are not too large, and M and after it x find room in the oracle once it is cleared
-pub record Fits {K : Type 0} (st : Standing K) (m n : ℕ) (matrix vector : List K) : Type 0 where
-  pub few_rows : m ≤ 64
-  pub few_gates : n ≤ 85
-  pub first : fix_refusal (emptied st) matrix ≡ None
-  pub second : fix_refusal (appended (emptied st) matrix) vector ≡ None

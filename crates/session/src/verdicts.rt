@@ -1,5 +1,7 @@
-ghost use Rattle.std.specs.Prelude.{◌≡◌};
-ghost use Rattle.session.specs.Verdicts.{verdict_number};
+ghost use Rattle.std.specs.Prelude.{◌≡◌, Some};
+ghost use Rattle.session.specs.Verdicts.{verdict_number, words};
+
+use std::fmt;
 
 // What a session finds of a transcript.
 #[derive(Clone, Copy, PartialEq, Eq, Debug)]
@@ -22,6 +24,18 @@ impl Verdict {
             Verdict::Accepted => 1,
             Verdict::TurnedDown => 2,
         }
+    }
+}
+
+impl fmt::Display for Verdict {
+    ghost output = { λ v. Some (words v) };
+
+    fn fmt<W: fmt::Write>(&self, f: &mut fmt::Formatter<W>) -> fmt::Result {
+        f.write_str(match self {
+            Verdict::Pending => "none",
+            Verdict::Accepted => "accepted",
+            Verdict::TurnedDown => "turned down",
+        })
     }
 }
 

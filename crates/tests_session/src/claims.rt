@@ -1,29 +1,29 @@
 // Inner-product claims at the edges: the span of the field, and a point that is zero.
 use field::Field;
 use gf256::Gf256;
-use inner_product::InnerProductClaim;
+use inner_product::{InnerProductClaim, Values};
 use mersenne31::{Mersenne31, P};
 
-// The number of the refusal of a claim with d at z, or 0.
-fn refusal<F: Field>(d: usize, z: F) -> u32 {
+// The number of the refusal of a claim with d at z, where it is refused.
+fn refusal<F: Field>(d: usize, z: F) -> Option<u32> {
     match InnerProductClaim::state(d, F::one(), z) {
         Ok(claim) => {
             let _no = claim.withdraw();
-            0
+            None
         }
-        Err(e) => e.number(),
+        Err(e) => Some(e.number()),
     }
 }
 
 #[test]
 fn refusals(rt: HostRuntime) {
-    assert_eq!(rt; refusal(255, Mersenne31(1)), 0);
-    assert_eq!(rt; refusal(256, Mersenne31(1)), 51);
-    assert_eq!(rt; refusal(usize::MAX, Mersenne31(0)), 51);
-    assert_eq!(rt; refusal(255, Mersenne31(P)), 22);
-    assert_eq!(rt; refusal(127, Gf256(1)), 0);
-    assert_eq!(rt; refusal(128, Gf256(1)), 51);
-    assert_eq!(rt; refusal(0, Gf256(0)), 22);
+    assert_eq!(rt; refusal(255, Mersenne31(1)), None);
+    assert_eq!(rt; refusal(256, Mersenne31(1)), Some(51));
+    assert_eq!(rt; refusal(usize::MAX, Mersenne31(0)), Some(51));
+    assert_eq!(rt; refusal(255, Mersenne31(P)), Some(22));
+    assert_eq!(rt; refusal(127, Gf256(1)), None);
+    assert_eq!(rt; refusal(128, Gf256(1)), Some(51));
+    assert_eq!(rt; refusal(0, Gf256(0)), Some(22));
 }
 
 // With d = 1 and z = 2: 7·yh - yh2 = 2·(ya·yb - c).
@@ -31,11 +31,21 @@ fn refusals(rt: HostRuntime) {
 fn settlements(rt: HostRuntime) {
     let (c, z) = (Mersenne31(5), Mersenne31(2));
     if let Ok(claim) = InnerProductClaim::state(1, c, z) {
-        let yes = claim.settle(Mersenne31(3), Mersenne31(4), Mersenne31(2), Mersenne31(0));
+        let yes = claim.settle(Values {
+            ya: Mersenne31(3),
+            yb: Mersenne31(4),
+            yh: Mersenne31(2),
+            yh2: Mersenne31(0),
+        });
         assert_eq!(rt; yes, true);
     }
     if let Ok(claim) = InnerProductClaim::state(1, c, z) {
-        let no = claim.settle(Mersenne31(3), Mersenne31(4), Mersenne31(2), Mersenne31(1));
+        let no = claim.settle(Values {
+            ya: Mersenne31(3),
+            yb: Mersenne31(4),
+            yh: Mersenne31(2),
+            yh2: Mersenne31(1),
+        });
         assert_eq!(rt; no, false);
     }
 }

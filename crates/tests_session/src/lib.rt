@@ -9,5 +9,3 @@ mod refusals;
 mod runs;
 #[cfg(test)]
 mod sizes;
-#[cfg(test)]
-mod transcripts;

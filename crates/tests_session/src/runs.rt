@@ -1,67 +1,83 @@
 // A full run that is accepted and one that is turned down, in each field on each make.
-use crate::transcripts::{Transcript, calls};
 use dense_oracle::DenseOracle;
+use field::{Encoded, Field};
 use gf256::Gf256;
+use ledger::Transcript;
 use mersenne31::Mersenne31;
 use oracle::Oracle;
-use prover::prove;
+use prover::{Challenges, Claim, Layout, Statement, Wires};
 use session::{Report, run};
 use sparse_oracle::SparseOracle;
+use std::alloc::Global;
 use std::process::Abort;
 use std::test::Fail;
 
-// The matrix (5, 1, 2, 3) and the wires 2, 3, 6: a claim that is true exactly if x is 31.
-fn prime<O: Oracle<Elem = Mersenne31> + Drop>(oracle: O, x: u32) -> Result<Report, Fail> {
-    let matrix = [Mersenne31(5), Mersenne31(1), Mersenne31(2), Mersenne31(3)];
-    let (left, right, out) = ([Mersenne31(2)], [Mersenne31(3)], [Mersenne31(6)]);
-    let (alpha, beta, z) = (Mersenne31(10), Mersenne31(11), Mersenne31(12));
-    let (free1, free2) = (Mersenne31(7), Mersenne31(9));
-    let mut reply = [Mersenne31(0); 12];
-    prove(
-        1, 1, &matrix, &left, &right, &out, alpha, beta, free1, free2, &mut reply,
-    )?;
-    let t = Transcript {
-        matrix: &matrix,
-        vector: &[Mersenne31(x)],
-        left: &left,
-        right: &right,
-        out: &out,
-        r: &reply[0..4],
-        q: &reply[4..4],
-        h1: &reply[4..11],
-        h2: &reply[11..12],
-        alpha,
-        beta,
-        z,
+// The report of a run over the oracle: a claim of one row and one gate with the honest reply to it.
+fn played<F: Encoded, O: Oracle<Elem = F> + Drop>(
+    heap: Global,
+    oracle: O,
+    claim: Claim<'_, F>,
+) -> Result<Report, Fail> {
+    let at = Challenges {
+        alpha: F::from_word(10),
+        beta: F::from_word(11),
+        free1: F::from_word(7),
+        free2: F::from_word(9),
     };
-    Ok(run(oracle, &calls(t)).report())
+    let layout = Layout::of::<F>(1, 1)?;
+    let mut cells = vec![in heap; F::zero(); layout.h2_end]?;
+    claim.prove(at, &mut cells)?;
+    let Some(reply) = layout.split(&cells) else {
+        return Err(Fail::new("the cells are those of a reply"));
+    };
+    let transcript = Transcript {
+        claim,
+        reply,
+        alpha: at.alpha,
+        beta: at.beta,
+        z: F::from_word(12),
+    };
+    Ok(run(oracle, &transcript.calls(heap)?).report())
+}
+
+// The matrix (5, 1, 2, 3) and the wires 2, 3, 6: a claim that is true exactly if x is 31.
+fn prime<O: Oracle<Elem = Mersenne31> + Drop>(
+    heap: Global,
+    oracle: O,
+    x: u32,
+) -> Result<Report, Fail> {
+    let claim = Claim {
+        statement: Statement {
+            m: 1,
+            n: 1,
+            matrix: &[Mersenne31(5), Mersenne31(1), Mersenne31(2), Mersenne31(3)],
+            vector: &[Mersenne31(x)],
+        },
+        wires: Wires {
+            left: &[Mersenne31(2)],
+            right: &[Mersenne31(3)],
+            out: &[Mersenne31(6)],
+        },
+    };
+    played(heap, oracle, claim)
 }
 
 // The matrix (0, 0, 0, 1) and the wires 0x57, 0x83, 0xc1: true exactly if x is 0xc1.
-fn byte<O: Oracle<Elem = Gf256> + Drop>(oracle: O, x: u8) -> Result<Report, Fail> {
-    let matrix = [Gf256(0), Gf256(0), Gf256(0), Gf256(1)];
-    let (left, right, out) = ([Gf256(0x57)], [Gf256(0x83)], [Gf256(0xc1)]);
-    let (alpha, beta, z) = (Gf256(10), Gf256(11), Gf256(12));
-    let (free1, free2) = (Gf256(7), Gf256(9));
-    let mut reply = [Gf256(0); 12];
-    prove(
-        1, 1, &matrix, &left, &right, &out, alpha, beta, free1, free2, &mut reply,
-    )?;
-    let t = Transcript {
-        matrix: &matrix,
-        vector: &[Gf256(x)],
-        left: &left,
-        right: &right,
-        out: &out,
-        r: &reply[0..4],
-        q: &reply[4..4],
-        h1: &reply[4..11],
-        h2: &reply[11..12],
-        alpha,
-        beta,
-        z,
+fn byte<O: Oracle<Elem = Gf256> + Drop>(heap: Global, oracle: O, x: u8) -> Result<Report, Fail> {
+    let claim = Claim {
+        statement: Statement {
+            m: 1,
+            n: 1,
+            matrix: &[Gf256(0), Gf256(0), Gf256(0), Gf256(1)],
+            vector: &[Gf256(x)],
+        },
+        wires: Wires {
+            left: &[Gf256(0x57)],
+            right: &[Gf256(0x83)],
+            out: &[Gf256(0xc1)],
+        },
     };
-    Ok(run(oracle, &calls(t)).report())
+    played(heap, oracle, claim)
 }
 
 // A finished run, none of whose calls was refused, has this verdict.
@@ -73,19 +89,19 @@ fn found(rt: &impl Abort, report: Report, verdict: u32) {
 #[test]
 fn primes(rt: HostRuntime) -> Result<(), Fail> {
     let heap = rt.alloc();
-    found(&rt, prime(DenseOracle::new(heap, 20)?, 31)?, 1);
-    found(&rt, prime(DenseOracle::new(heap, 20)?, 32)?, 2);
-    found(&rt, prime(SparseOracle::new(heap, 20)?, 31)?, 1);
-    found(&rt, prime(SparseOracle::new(heap, 20)?, 32)?, 2);
+    found(&rt, prime(heap, DenseOracle::new(heap, 20)?, 31)?, 1);
+    found(&rt, prime(heap, DenseOracle::new(heap, 20)?, 32)?, 2);
+    found(&rt, prime(heap, SparseOracle::new(heap, 20)?, 31)?, 1);
+    found(&rt, prime(heap, SparseOracle::new(heap, 20)?, 32)?, 2);
     Ok(())
 }
 
 #[test]
 fn bytes(rt: HostRuntime) -> Result<(), Fail> {
     let heap = rt.alloc();
-    found(&rt, byte(DenseOracle::new(heap, 20)?, 0xc1)?, 1);
-    found(&rt, byte(DenseOracle::new(heap, 20)?, 0xc2)?, 2);
-    found(&rt, byte(SparseOracle::new(heap, 20)?, 0xc1)?, 1);
-    found(&rt, byte(SparseOracle::new(heap, 20)?, 0xc2)?, 2);
+    found(&rt, byte(heap, DenseOracle::new(heap, 20)?, 0xc1)?, 1);
+    found(&rt, byte(heap, DenseOracle::new(heap, 20)?, 0xc2)?, 2);
+    found(&rt, byte(heap, SparseOracle::new(heap, 20)?, 0xc1)?, 1);
+    found(&rt, byte(heap, SparseOracle::new(heap, 20)?, 0xc2)?, 2);
     Ok(())
 }

@@ -3,8 +3,8 @@ ghost use Rattle.oracle.specs.Standing.{answer_by};
 ghost use Rattle.ledger.specs.Faults.{told_answer};
 ghost use Rattle.ledger.specs.Ledger.{move_of, allowed, in_shape, room_refusal, open_refusal, put_refusal, draw_refusal, draw_due, judges, opens, puts, draws};
 ghost use Rattle.ledger.specs.States.{fresh, step_refusal, accepted};
-ghost use Rattle.ledger.specs.declared.call.Call.TheVariants.{Draw, Judge};
-ghost use Rattle.session.specs.Sessions.{state_of, report_of, Tries, Makes, Fits};
+ghost use Rattle.session.specs.Sessions.{state_of, report_of, Tries, Makes};
+ghost use Rattle.session.specs.Statements.{opens_of, refusal_of, Fits};
 
 use crate::state::Session;
 use crate::verdicts::{Report, Verdict};
@@ -12,7 +12,7 @@ use equations::hold;
 use field::Field;
 use ledger::{Call, SessionFault};
 use oracle::{Oracle, OracleFault};
-use prover::in_range;
+use prover::{Statement, in_range};
 
 impl<O: Oracle> Session<O> {
     // A session at turn 0, over the oracle, which is cleared.
@@ -35,21 +35,10 @@ impl<O: Oracle> Session<O> {
     }
 
     // The statement, due at turn 0: fixes the matrix and the vector as polynomials 0 and 1. Tries 11, 12, 13, 15.
-    pub fn open<'x>(
-        &mut self,
-        m: usize,
-        n: usize,
-        matrix: &'x [O::Elem],
-        vector: &'x [O::Elem],
-    ) -> Result<(), SessionFault>
-        ensures { Makes O.Oracle O.Elem.Field (opens m n (map O.Elem.Field.mean matrix.now) (map O.Elem.Field.mean vector.now)) self.old self.new result }
+    pub fn open(&mut self, statement: Statement<'_, O::Elem>) -> Result<(), SessionFault>
+        ensures { Makes O.Oracle O.Elem.Field (opens_of O.Elem.Field.mean statement.entry) self.old self.new result }
     {
-        self.call(&Call::Open {
-            m,
-            n,
-            matrix,
-            vector,
-        })
+        self.call(&Call::Open(statement))
     }
 
     // The next polynomial, due at turns 1 to 3 and 6 to 9. Tries 11, 14, 15.
@@ -63,14 +52,14 @@ impl<O: Oracle> Session<O> {
     pub fn draw(&mut self, x: O::Elem) -> Result<(), SessionFault>
         ensures { Makes O.Oracle O.Elem.Field (draws (O.Elem.Field.mean x)) self.old self.new result }
     {
-        self.call(&draw_call(x))
+        self.call(&Call::Draw(x))
     }
 
     // Tests the three equations, at turn 11. Tries 31.
     pub fn judge(&mut self) -> Result<(), SessionFault>
         ensures { Makes O.Oracle O.Elem.Field judges self.old self.new result }
     {
-        self.call(&judge_call())
+        self.call(&Call::Judge)
     }
 
     // One call. A refused one is counted and changes nothing else.
@@ -118,22 +107,14 @@ impl<O: Oracle> Session<O> {
         ensures { Tries O.Oracle O.Elem.Field (step_refusal O.Elem.Field.ops (state_of O.Oracle O.Elem.Field self.old) (move_of O.Elem.Field.mean call.now)) (move_of O.Elem.Field.mean call.now) self.old self.new result }
     {
         match (self.turn, call) {
-            (
-                0,
-                Call::Open {
-                    m,
-                    n,
-                    matrix,
-                    vector,
-                },
-            ) => self.try_open(*m, *n, matrix, vector),
+            (0, Call::Open(statement)) => self.try_open(*statement),
             (1..=3 | 6..=9, Call::Put(p)) => self.try_put(p),
             (4 | 5 | 10, Call::Draw(x)) => self.try_draw(*x),
             (11, Call::Judge) => {
                 self.find();
                 Ok(())
             }
-            (_, Call::Open { .. }) => Err(SessionFault::OutOfTurn),
+            (_, Call::Open(_)) => Err(SessionFault::OutOfTurn),
             (_, Call::Put(_)) => Err(SessionFault::OutOfTurn),
             (_, Call::Draw(_)) => Err(SessionFault::DrawOutOfTurn),
             (_, Call::Judge) => Err(SessionFault::JudgeOutOfTurn),
@@ -141,65 +122,54 @@ impl<O: Oracle> Session<O> {
     }
 
     // An open that is due.
-    fn try_open(
-        &mut self,
-        m: usize,
-        n: usize,
-        matrix: &[O::Elem],
-        vector: &[O::Elem],
-    ) -> Result<(), SessionFault>
-        ensures { Tries O.Oracle O.Elem.Field (open_refusal O.Elem.Field.ops (O.Oracle.stand self.old.oracle O.Elem.Field) m n (map O.Elem.Field.mean matrix.now) (map O.Elem.Field.mean vector.now))
-            (opens m n (map O.Elem.Field.mean matrix.now) (map O.Elem.Field.mean vector.now)) self.old self.new result }
+    fn try_open(&mut self, statement: Statement<'_, O::Elem>) -> Result<(), SessionFault>
+        ensures { Tries O.Oracle O.Elem.Field (refusal_of O.Elem.Field (O.Oracle.stand self.old.oracle O.Elem.Field) statement.entry)
+            (opens_of O.Elem.Field.mean statement.entry) self.old self.new result }
     {
-        self.openable(m, n, matrix, vector)?;
-        self.start(m, n, matrix, vector);
+        self.openable(statement)?;
+        self.start(statement);
         Ok(())
     }
 
     // Whether an open fits: 12, 13, 15.
-    fn openable(
-        &self,
-        m: usize,
-        n: usize,
-        matrix: &[O::Elem],
-        vector: &[O::Elem],
-    ) -> Result<(), SessionFault>
-        ensures answer { told_answer result ≡ answer_by (open_refusal O.Elem.Field.ops (O.Oracle.stand self.now.oracle O.Elem.Field) m n (map O.Elem.Field.mean matrix.now) (map O.Elem.Field.mean vector.now)) }
-        ensures fits { OnOk result (Fits (O.Oracle.stand self.now.oracle O.Elem.Field) m n (map O.Elem.Field.mean matrix.now) (map O.Elem.Field.mean vector.now)) }
+    fn openable(&self, statement: Statement<'_, O::Elem>) -> Result<(), SessionFault>
+        ensures answer { told_answer result ≡ answer_by (refusal_of O.Elem.Field (O.Oracle.stand self.now.oracle O.Elem.Field) statement.entry) }
+        ensures fits { OnOk result (Fits O.Elem.Field.mean (O.Oracle.stand self.now.oracle O.Elem.Field) statement.entry) }
     {
-        if !in_range::<O::Elem>(m, n) {
+        if !in_range::<O::Elem>(statement.m, statement.n) {
             return Err(SessionFault::BadSize);
         }
-        if !in_shape(m, n, matrix, vector) {
+        if !in_shape(statement) {
             return Err(SessionFault::BadLength);
         }
-        self.room(matrix, vector)
+        self.room(statement)
     }
 
     // Clears the oracle, fixes the matrix and the vector, and goes to turn 1.
-    fn start(&mut self, m: usize, n: usize, matrix: &[O::Elem], vector: &[O::Elem])
-        requires { Fits (O.Oracle.stand self.old.oracle O.Elem.Field) m n (map O.Elem.Field.mean matrix.now) (map O.Elem.Field.mean vector.now) }
-        ensures { state_of O.Oracle O.Elem.Field self.new ≡ accepted O.Elem.Field.ops (state_of O.Oracle O.Elem.Field self.old) (opens m n (map O.Elem.Field.mean matrix.now) (map O.Elem.Field.mean vector.now)) }
+    fn start(&mut self, statement: Statement<'_, O::Elem>)
+        requires { Fits O.Elem.Field.mean (O.Oracle.stand self.old.oracle O.Elem.Field) statement }
+        ensures { state_of O.Oracle O.Elem.Field self.new ≡ accepted O.Elem.Field.ops (state_of O.Oracle O.Elem.Field self.old) (opens_of O.Elem.Field.mean statement.entry) }
     {
         self.oracle.clear();
         // Both find room.
-        let _ = self.oracle.fix(matrix);
-        let _ = self.oracle.fix(vector);
-        self.m = m;
-        self.n = n;
+        let _ = self.oracle.fix(statement.matrix);
+        let _ = self.oracle.fix(statement.vector);
+        self.m = statement.m;
+        self.n = statement.n;
         self.turn = 1;
     }
 
     // Whether the matrix and the vector find room together.
-    fn room(&self, matrix: &[O::Elem], vector: &[O::Elem]) -> Result<(), SessionFault>
-        requires { (length matrix.now ≤ 16384) × (length vector.now ≤ 16384) }
-        ensures { told_answer result ≡ answer_by (room_refusal (O.Oracle.stand self.now.oracle O.Elem.Field) (map O.Elem.Field.mean matrix.now) (map O.Elem.Field.mean vector.now)) }
+    fn room(&self, statement: Statement<'_, O::Elem>) -> Result<(), SessionFault>
+        requires short_matrix { length statement.matrix.now ≤ 16384 }
+        requires short_vector { length statement.vector.now ≤ 16384 }
+        ensures { told_answer result ≡ answer_by (room_refusal (O.Oracle.stand self.now.oracle O.Elem.Field) (map O.Elem.Field.mean statement.entry.matrix.now) (map O.Elem.Field.mean statement.entry.vector.now)) }
     {
-        let rows = self.oracle.needs(matrix)?;
-        let entries = self.oracle.needs(vector)?;
+        let rows = self.oracle.needs(statement.matrix)?;
+        let entries = self.oracle.needs(statement.vector)?;
         let free = self.oracle.free();
-        let needed = rows as u64 + entries as u64;
-        if needed > free as u64 {
+        let needed = u64::from(rows) + u64::from(entries);
+        if needed > u64::from(free) {
             return Err(SessionFault::Oracle(OracleFault::NoRoom { needed, free }));
         }
         Ok(())
@@ -211,7 +181,7 @@ impl<O: Oracle> Session<O> {
         ensures { Tries O.Oracle O.Elem.Field (put_refusal (O.Oracle.stand self.old.oracle O.Elem.Field) (allowed self.old.turn self.old.m self.old.n) (map O.Elem.Field.mean p.now))
             (puts (map O.Elem.Field.mean p.now)) self.old self.new result }
     {
-        if p.len() > limit(self.turn, self.m, self.n) {
+        if p.len() > self.limit() {
             return Err(SessionFault::TooMany);
         }
         self.oracle.fix(p)?;
@@ -219,12 +189,25 @@ impl<O: Oracle> Session<O> {
         Ok(())
     }
 
+    // The most coefficients that a put may have.
+    fn limit(&self) -> usize
+        ensures { result ≡ allowed self.now.turn self.now.m self.now.n }
+    {
+        match self.turn {
+            0..=3 => self.n,
+            6 => 3 * self.n + 1,
+            7 => self.m.saturating_sub(1) * (3 * self.n + 1),
+            8 => 6 * self.n + 1,
+            _ => (2 * self.n).saturating_sub(1),
+        }
+    }
+
     // A draw that is due.
     fn try_draw(&mut self, x: O::Elem) -> Result<(), SessionFault>
         requires { draw_due self.old.turn ≡ true }
         ensures { Tries O.Oracle O.Elem.Field (draw_refusal O.Elem.Field.ops (O.Elem.Field.mean x)) (draws (O.Elem.Field.mean x)) self.old self.new result }
     {
-        if x.same(O::Elem::zero()) {
+        if x.is_zero() {
             return Err(SessionFault::ZeroChallenge);
         }
         match self.turn {
@@ -250,39 +233,12 @@ impl<O: Oracle> Session<O> {
     }
 }
 
-// The most coefficients that a put may have at a turn.
-fn limit(turn: u8, m: usize, n: usize) -> usize
-    requires { (m ≤ 64) × (n ≤ 85) }
-    ensures { result ≡ allowed turn m n }
-{
-    match turn {
-        0..=3 => n,
-        6 => 3 * n + 1,
-        7 => m.saturating_sub(1) * (3 * n + 1),
-        8 => 6 * n + 1,
-        _ => (2 * n).saturating_sub(1),
-    }
-}
-
 // Whether the matrix has m rows of 3n + 1 entries, and the vector m entries.
-fn in_shape<F: Field>(m: usize, n: usize, matrix: &[F], vector: &[F]) -> bool
-    requires { (m ≤ 64) × (n ≤ 85) }
-    ensures { result ≡ in_shape m n (length (map F.Field.mean matrix.now)) (length (map F.Field.mean vector.now)) }
+fn in_shape<F: Field>(statement: Statement<'_, F>) -> bool
+    requires few_rows { statement.m ≤ 64 }
+    requires few_gates { statement.n ≤ 85 }
+    ensures { result ≡ in_shape statement.entry.m statement.entry.n (length (map F.Field.mean statement.entry.matrix.now)) (length (map F.Field.mean statement.entry.vector.now)) }
 {
-    let size = m * (3 * n + 1);
-    matrix.len() == size && vector.len() == m
-}
-
-// A draw as a call.
-fn draw_call<'a, F>(x: F) -> Call<'a, F>
-    ensures { result ≡ Draw x }
-{
-    Call::Draw(x)
-}
-
-// A judge as a call.
-fn judge_call<'a, F>() -> Call<'a, F>
-    ensures { result ≡ Judge }
-{
-    Call::Judge
+    let size = statement.m * (3 * statement.n + 1);
+    statement.matrix.len() == size && statement.vector.len() == statement.m
 }
