@@ -1,8 +1,9 @@
 -- The cells of an equation's row: at most one term falls on each.
-use Rattle.std.proofs.Common.{◌≡◌, ℕ, ◌+◌, ◌*◌, ◌<◌, ◌≤◌, eqb, List, length, sym, ap, ◌∙◌, ap₂, zero-add, arith}
+use Rattle.std.proofs.Common.{◌≡◌, ℕ, ◌+◌, ◌*◌, ◌<◌, ◌≤◌, false, eqb, List, length, sym, ap, ◌∙◌, ap₂, zero-add, arith}
 use Rattle.std.specs.List.{range_with_len}
 use Rattle.std.proofs.lemmas.List.FromFn.{get_or-range_with_len}
-use Rattle.std.proofs.lemmas.Bool.{eqb-false}
+use Rattle.std.proofs.lemmas.List.Sums.{fails_before_first}
+use Rattle.std.proofs.lemmas.Bool.Decides.{nat_tests}
 use Rattle.field.specs.Field.{Ops, Laws}
 use Rattle.field.proofs.Ring as R
 use Rattle.algebra.specs.Sums.{sum}
@@ -11,19 +12,19 @@ use Rattle.algebra.proofs.Sums as S
 use Rattle.quadratic.specs.Systems.{System, gates, term}
 use Rattle.quadratic.specs.Positions.{names, name_at, first, unused}
 use Rattle.quadratic.specs.Encodings.{equation_cell}
-use Rattle.quadratic.proofs.Searches.{first_le, first_before, first_carries, length_names}
+use Rattle.quadratic.proofs.Searches.{first_le, first_carries, length_names}
 use Rattle.quadratic.proofs.Spreads.{monomial_at, monomial_off}
 
 -- where no variable is unused, each has a first position
 pub used_all : (v : ℕ) (pairs : List (ℕ × ℕ)) → unused v pairs ≡ v → (i : ℕ) → i < v → first pairs i < 2 * length pairs
 used_all v pairs e i h =
     let test = λ (k : ℕ). eqb (first pairs k) (2 * length pairs) in
-    let off = first_before test (range_with_len 0 v) 0 i (omega arith) in
-    let apart = eqb-false (first pairs i) (2 * length pairs) (sym (ap test (get_or-range_with_len 0 v i 0 h ∙ zero-add i)) ∙ off) in
+    let off : eqb (first pairs i) (2 * length pairs) ≡ false = sym (ap test (get_or-range_with_len 0 v i 0 h ∙ zero-add i)) ∙ fails_before_first test (range_with_len 0 v) i 0 (omega arith) in
     let upto = first_le (eqb i) (names pairs) in
-    omega (arith, length_names pairs)
+    let long = length_names pairs in
+    grind (arith, nat_tests)
 
-module _ {K : Type 0} (f : Ops K) (laws : Laws f) (s : System K) (used : (i : ℕ) → i < s.variables → first s.pairs i < 2 * gates s) (k : ℕ) where
+module _ {K : Type 0} (f : Ops K) (laws : Laws f) (s : System K) (whole : unused s.variables s.pairs ≡ s.variables) (k : ℕ) where
   open f use {nil, add as ◌⊞◌}
   open laws use {add_nil}
 
@@ -55,7 +56,7 @@ module _ {K : Type 0} (f : Ops K) (laws : Laws f) (s : System K) (used : (i : �
   pub output_cell : (j g : ℕ) → j ≡ 1 + 2 * gates s + g → g < gates s → equation_cell f s k j ≡ term f s k (1 + s.variables + g)
   output_cell j g e h =
       past j (omega arith)
-      ∙ ap₂ ◌⊞◌ (no_linear j (λ i l o. omega (arith, used i l)))
+      ∙ ap₂ ◌⊞◌ (no_linear j (λ i l o. omega (arith, used_all s.variables s.pairs whole i l)))
       (S.sum_one f laws (gates s) g (λ g. monomial f (term f s k (1 + s.variables + g)) (1 + 2 * gates s + g) j) h
       (λ i l o. monomial_off f (term f s k (1 + s.variables + i)) (1 + 2 * gates s + i) j (λ q. o (omega arith)))
       ∙ ap (λ c. monomial f (term f s k (1 + s.variables + g)) c j) (sym e) ∙ monomial_at f (term f s k (1 + s.variables + g)) j)
@@ -67,7 +68,7 @@ module _ {K : Type 0} (f : Ops K) (laws : Laws f) (s : System K) (used : (i : �
     only : (h : ℕ) → h < s.variables → j ≡ 1 + first s.pairs h → h ≡ i
     only h l e =
         let same : first s.pairs h ≡ p = omega arith in
-        sym (first_carries s.pairs h (used h l)) ∙ ap (name_at s.pairs) same ∙ sym carries
+        sym (first_carries s.pairs h (used_all s.variables s.pairs whole h l)) ∙ ap (name_at s.pairs) same ∙ sym carries
 
     pub first_cell : i < s.variables → first s.pairs i ≡ p → equation_cell f s k j ≡ term f s k (1 + i)
     first_cell l e =

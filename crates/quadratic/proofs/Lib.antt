@@ -1,9 +1,9 @@
-pub mod Places
 pub mod Searches
 pub mod Wires
 pub mod Spreads
+pub mod Lists
+pub mod Evaluation
 pub mod Theorem
 pub mod Cells
-pub mod Pushes
 pub mod Accepts
 pub mod Claims

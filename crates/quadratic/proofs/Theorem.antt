@@ -1,5 +1,5 @@
 -- The encoded claim is true exactly if the signature solves the system.
-use Rattle.std.proofs.Common.{◌≡◌, ℕ, ◌+◌, ◌-◌, ◌*◌, ◌<◌, ◌≤◌, cond, List, [], ◌∷◌, length, get_or, sym, refl, ap, ◌∙◌, ap₂, arith}
+use Rattle.std.proofs.Common.{◌≡◌, ℕ, ◌+◌, ◌-◌, ◌*◌, ◌<◌, ◌≤◌, cond, List, [], ◌∷◌, length, sym, refl, ap, ◌∙◌, ap₂, arith}
 use native.Mathlib.Decide.{dec_lt}
 use Rattle.std.proofs.lemmas.List.FromFn.{get_or-map-range_with_len}
 use Rattle.std.proofs.lemmas.Bool.{lt-ltb, le-ltb}
@@ -78,11 +78,10 @@ module _ {K : Type 0} (f : Ops K) (laws : Laws f) (s : System K) (signature y : 
   gate_holds g h =
       let n = gates s in
       let read = carried f s.pairs signature in
-      let e : n + g - n ≡ g = omega arith in
       R.sub_nil f laws (coeff f (encoded f s signature y).left g ⊠ coeff f (encoded f s signature y).right g) (coeff f (encoded f s signature y).out g)
       (ap₂ ◌⊠◌
       (get_or-map-range_with_len read 0 n g g nil h (omega arith) ∙ ap (coeff f signature) (name_left s.pairs g h))
-      (get_or-map-range_with_len read n n g (n + g) nil h refl ∙ ap (coeff f signature) (name_right s.pairs (n + g) (omega arith) (omega arith) ∙ ap (λ t. (get_or s.pairs t (0, 0)).1) e))
+      (get_or-map-range_with_len read n n g (n + g) nil h refl ∙ ap (coeff f signature) (name_right s.pairs (n + g) g refl h))
       ∙ sym (get_or-map-range_with_len (product f s.pairs signature) 0 n g g nil h (omega arith)))
 
   pub faithful : ((i : ℕ) → i < s.variables → first s.pairs i < 2 * gates s) → Faithful f s signature y (encoded f s signature y)

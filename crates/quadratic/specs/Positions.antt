@@ -1,11 +1,10 @@
 -- The wire positions: 0 to n - 1 on the left, n to 2n - 1 on the right, and the variable that each one carries.
-use Rattle.std.specs.Prelude.{ℕ, suc, ◌*◌, Bool, cond, not, ◌&&◌, List, [], ◌∷◌, ◌++◌, map, length, nat_eq, nat_lt, slice_index}
-use Rattle.std.specs.List.{range_with_len}
+use Rattle.std.specs.Prelude.{ℕ, ◌*◌, Bool, not, ◌&&◌, List, ◌++◌, map, length, nat_eq, nat_lt, slice_index}
+use Rattle.std.specs.List.{position_or_len, range_with_len}
 
 -- the first place of a list at which a test is true; its length where there is none
 abbrev pub first_where : {A : Type 0} → (A → Bool) → List A → ℕ
-first_where test [] = 0
-first_where test (x ∷ xs) = cond (test x) 0 (suc (first_where test xs))
+first_where test xs = position_or_len test xs
 
 -- the variables by position: the first of each pair, then the second of each pair
 abbrev pub names : List (ℕ × ℕ) → List ℕ

@@ -1,5 +1,5 @@
 -- What a fault tells, and which one fits a system with a signature and a digest.
-use Rattle.std.specs.Prelude.{◌≡◌, ℕ, ◌+◌, ◌*◌, cond, List, [], ◌∷◌, length, Some, None, Option, ◌==◌, nat_lt}
+use Rattle.std.specs.Prelude.{◌≡◌, ℕ, ◌+◌, ◌*◌, cond, List, [], ◌∷◌, ◌++◌, length, Some, None, Option, ◌==◌, codes, decimal, nat_lt}
 use Rattle.quadratic.specs.declared.fault.Fault.{Fault}
 use Rattle.quadratic.specs.declared.fault.Fault.TheVariants.{SignatureLength, CoefficientsLength, StrayPair, UnusedVariable, NoMemory}
 use Rattle.quadratic.specs.Positions.{stray, unused}
@@ -15,6 +15,14 @@ told CoefficientsLength = (82, [])
 told (StrayPair pair) = (83, pair ∷ [])
 told (UnusedVariable variable) = (84, variable ∷ [])
 told NoMemory = (85, [])
+
+-- a fault in words, with the number that it tells
+abbrev pub fault_text : Fault → List ℕ
+fault_text SignatureLength = codes "the signature has not an entry for each variable"
+fault_text CoefficientsLength = codes "the coefficients are not a row for each equation"
+fault_text (StrayPair pair) = codes "pair " ++ decimal pair ++ codes " names an unknown variable"
+fault_text (UnusedVariable variable) = codes "variable " ++ decimal variable ++ codes " is in no pair"
+fault_text NoMemory = codes "no memory is left, or a size is too large"
 
 -- p where it is below n
 abbrev pub found : ℕ → ℕ → Option ℕ

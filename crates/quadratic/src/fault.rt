@@ -1,9 +1,11 @@
-ghost use Rattle.std.specs.Prelude.{◌≡◌};
+ghost use Rattle.std.specs.Prelude.{◌≡◌, Some};
 ghost use Rattle.std.specs.Option.{option_to_list};
-ghost use Rattle.quadratic.specs.Refusals.{told};
+ghost use Rattle.quadratic.specs.Refusals.{told, fault_text};
 ghost use Rattle.quadratic.specs.declared.fault.Fault.TheVariants.{NoMemory};
 
 use std::alloc::{AllocError, AllocFailed};
+use std::error::Error;
+use std::fmt;
 
 // Why a signature is not encoded.
 #[derive(Clone, Copy, PartialEq, Eq, Debug)]
@@ -45,6 +47,25 @@ impl Fault {
         }
     }
 }
+
+impl fmt::Display for Fault {
+    ghost output = { λ fault. Some (fault_text fault) };
+
+    fn fmt<W: fmt::Write>(&self, f: &mut fmt::Formatter<W>) -> fmt::Result {
+        match self {
+            Fault::SignatureLength => write!(f, "the signature has not an entry for each variable"),
+            Fault::CoefficientsLength => write!(
+                f,
+                "the coefficients are not a row for each equation"
+            ),
+            Fault::StrayPair { pair } => write!(f, "pair {pair} names an unknown variable"),
+            Fault::UnusedVariable { variable } => write!(f, "variable {variable} is in no pair"),
+            Fault::NoMemory => write!(f, "no memory is left, or a size is too large"),
+        }
+    }
+}
+
+impl Error for Fault {}
 
 impl From<AllocError> for Fault {
     ghost from_gives = { λ _ r. r ≡ NoMemory };

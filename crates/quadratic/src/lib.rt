@@ -1,12 +1,11 @@
 #![tactic(auto)]
 
-mod cell;
-mod encoding;
-mod equation;
 mod fault;
+mod matrix;
 mod position;
-mod shape;
+mod signed;
+mod system;
+mod vector;
 
-pub use encoding::{Encoding, encode};
-pub use equation::evaluate;
 pub use fault::Fault;
+pub use system::System;

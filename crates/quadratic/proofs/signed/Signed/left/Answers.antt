@@ -1,0 +1,18 @@
+use Rattle.std.proofs.Common.{rules, ℕ, map, sym, ap, ◌∙◌, arith}
+use Rattle.std.proofs.lemmas.Iterator.{YieldsList-from_slice, YieldsList-from_map_by}
+use Rattle.algebra.specs.Polynomials.{coeff}
+use Rattle.quadratic.specs.Positions.{name_at}
+use Rattle.quadratic.specs.Encodings.{carried}
+use Rattle.quadratic.proofs.Lists.{list_from_collect}
+use Rattle.quadratic.proofs.Searches.{name_left}
+use Rattle.quadratic.proofs.signed.Signed.left.Goals as goal
+
+pub returns : goal.returns
+returns g c =
+    let f = g.F.Field in
+    let pairs = c.args.self.now.system.pairs.now in
+    let signature = map f.mean c.args.self.now.signature.now in
+    let read = λ (q : ℕ × ℕ). coeff f.ops signature q.0 in
+    list_from_collect read (carried f.ops pairs signature) 0 pairs (0, 0) c.collect.result c.collect.ensures.ran
+    (YieldsList-from_map_by _ f.mean read (YieldsList-from_slice pairs cc) c.map.ensures.closure (λ x r q k. search rules))
+    (λ k j h e. ap (coeff f.ops signature) (sym (name_left pairs k h) ∙ ap (name_at pairs) (omega arith)))
