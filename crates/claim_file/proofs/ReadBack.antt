@@ -3,7 +3,7 @@ use Rattle.std.proofs.Common.{◌≡◌, ℕ, ◌+◌, ◌*◌, ◌^◌, ◌<◌
 use Rattle.std.proofs.lemmas.Fmt.{decimal_is_IsNumeral}
 use Rattle.std.proofs.lemmas.Slice.Eq.{bytes_eq-Decides}
 use Rattle.std.proofs.lemmas.Str.Parse.{digit_from_value}
-use Rattle.std.proofs.lemmas.Bool.{and_parts, and_from, not-true, lt-ltb, ne_eqb}
+use Rattle.std.proofs.lemmas.Bool.{and_parts, not-true, lt-ltb}
 use Rattle.std.proofs.lemmas.Bool.Decides.{nat_tests}
 use Rattle.std.specs.Str.Parse.{AllDigits, digits_value_after}
 use Rattle.std.specs.Int.{IsInRange}
@@ -18,8 +18,8 @@ use Rattle.claim_file.specs.Numbers.{digit_value, spelled_after, number_of}
 use Rattle.claim_file.specs.State.{apart}
 use Rattle.claim_file.specs.Grammar.{Claim, order, letters, value_of, next_word, keyword, field_name, number_after, numbers_until, numbers_to_end, heading, claim_said, read_spec}
 use Rattle.claim_file.specs.Written.{listed, name_of, line_with, written, BelowAll, Sayable, ReadsBack}
-use Rattle.claim_file.proofs.Lexing.{on_word, on_line_end, on_blank, word_done, ended_some}
-use Rattle.claim_file.proofs.Numerals.{plain_number, spelled_some}
+use Rattle.claim_file.proofs.Lexing.{on_word, word_done, ended_some}
+use Rattle.claim_file.proofs.Numerals.{spelled_some}
 
 -- no byte ends a word
 abbrev solid : List ℕ → Bool
@@ -40,16 +40,12 @@ one_word n w bs h some next =
     solid_run n [] w bs h ∙ (word_done n w bs next ∙ ap (λ e. e ++ words_after n [] (bare false bs)) (ended_some n w some))
 
 -- digits
-solid_digit : (c : ℕ) → IsInRange 48 57 c → apart c ≡ false
-solid_digit c h = grind (arith, nat_tests)
-
-not_from : (x : Bool) → x ≡ false → not x ≡ true
-not_from true e = sym e
-not_from false e = refl
-
 solid_digits : (ds : List ℕ) → AllDigits 10 ds → solid ds ≡ true
 solid_digits [] h = refl
-solid_digits (c ∷ cs) h = and_from (not (apart c)) (solid cs) (not_from (apart c) (solid_digit c (digit_from_value c h.0))) (solid_digits cs h.1)
+solid_digits (c ∷ cs) h =
+    let range = digit_from_value c h.0 in
+    let more = solid_digits cs h.1 in
+    grind (arith, nat_tests)
 
 digit_read : (c : ℕ) → IsInRange 48 57 c → digit_value 10 c ≡ Some (decimal_digit_value c)
 digit_read c h = grind (arith, nat_tests)
@@ -59,18 +55,16 @@ unfolding spelled_after
 spelled_digits v [] h = refl
 spelled_digits v (c ∷ cs) h = rw (digit_read c (digit_from_value c h.0)) (spelled_digits (v * 10 + decimal_digit_value c) cs h.1)
 
-no_prefix : (ds : List ℕ) → AllDigits 10 ds → take 2 ds ≡ codes "0x" → ⊥
-no_prefix [] h e = let z : ◌≡◌ {A = ℕ} 0 2 = ap length e in omega arith
-no_prefix (c ∷ []) h e = let z : ◌≡◌ {A = ℕ} 1 2 = ap length e in omega arith
-no_prefix (c ∷ d ∷ ds) h e =
-    let at : d ≡ 120 = ap (λ l. get_or l 1 0) e in
-    let low = digit_from_value d h.1.0 in
-    omega arith
+no_prefix : (ds : List ℕ) → AllDigits 10 ds → bytes_eq (take 2 ds) (codes "0x") ≡ false
+no_prefix [] h = refl
+no_prefix (c ∷ []) h = grind (arith, nat_tests)
+no_prefix (c ∷ d ∷ ds) h = let range = digit_from_value d h.1.0 in grind (arith, nat_tests)
 
 decimal_number : (v : ℕ) → v < 2 ^ 64 → number_of (decimal v) ≡ Some v
+unfolding number_of
 decimal_number v h =
     let r = decimal_is_IsNumeral v h in
-    plain_number (decimal v) (no_prefix (decimal v) r.0.1) ∙ (spelled_some 10 (decimal v) r.0.0 ∙ (spelled_digits 0 (decimal v) r.0.1 ∙ ap Some r.1))
+    rw (no_prefix (decimal v) r.0.1) (spelled_some 10 (decimal v) r.0.0 ∙ (spelled_digits 0 (decimal v) r.0.1 ∙ ap Some r.1))
 
 -- the words of a line
 abbrev numerals : ℕ → List ℕ → List Located
@@ -82,23 +76,16 @@ next_apart [] rest h = refl
 next_apart (v ∷ vs) rest h = refl
 
 listed_words : (n : ℕ) (vs rest : List ℕ) → BelowAll (2 ^ 64) vs → words_after n [] (bare false (listed vs ++ 10 ∷ rest)) ≡ numerals n vs ++ words_after (n + 1) [] (bare false rest)
-listed_words n [] rest h = on_line_end false n 10 [] rest refl
+unfolding bare words_after
+listed_words n [] rest h = refl
 listed_words n (v ∷ vs) rest h =
     let r = decimal_is_IsNumeral v h.0 in
-    on_blank n 32 [] (decimal v ++ listed vs ++ 10 ∷ rest) refl refl refl
-    ∙ (ap (λ l. words_after n [] (bare false l)) (append_assoc (decimal v) (listed vs) (10 ∷ rest))
+    ap (λ l. words_after n [] (bare false l)) (append_assoc (decimal v) (listed vs) (10 ∷ rest))
     ∙ (one_word n (decimal v) (listed vs ++ 10 ∷ rest) (solid_digits (decimal v) r.0.1) r.0.0 (next_apart vs rest)
-    ∙ ap (λ l. word_of n (decimal v) ∷ l) (listed_words n vs rest h.1)))
+    ∙ ap (λ l. word_of n (decimal v) ∷ l) (listed_words n vs rest h.1))
 
 solid_key : (key : Keyword) → (solid (letters key) ≡ true) × (0 < length (letters key))
-solid_key Field = (refl, omega arith)
-solid_key M = (refl, omega arith)
-solid_key N = (refl, omega arith)
-solid_key Matrix = (refl, omega arith)
-solid_key Vector = (refl, omega arith)
-solid_key Left = (refl, omega arith)
-solid_key Right = (refl, omega arith)
-solid_key Out = (refl, omega arith)
+solid_key key = grind (arith, nat_tests)
 
 abbrev key_of : ℕ → Keyword → Located
 key_of n key = word_of n (letters key)
@@ -108,15 +95,12 @@ line_words n key vs rest h =
     one_word n (letters key) (listed vs ++ 10 ∷ rest) (solid_key key).0 (solid_key key).1 (next_apart vs rest) ∙ ap (λ l. key_of n key ∷ l) (listed_words n vs rest h)
 
 solid_name : (name : FieldName) → (solid (name_of name) ≡ true) × (0 < length (name_of name))
-solid_name Mersenne31 = (refl, omega arith)
-solid_name Gf256 = (refl, omega arith)
+solid_name name = grind (arith, nat_tests)
 
 name_words : (n : ℕ) (name : FieldName) (rest : List ℕ) → words_after n [] (bare false (line_with Field (32 ∷ name_of name) rest)) ≡ key_of n Field ∷ (word_of n (name_of name) ∷ words_after (n + 1) [] (bare false rest))
+unfolding bare words_after
 name_words n name rest =
-    one_word n (letters Field) (32 ∷ (name_of name ++ 10 ∷ rest)) refl (omega arith) (λ _. refl)
-    ∙ ap (λ l. key_of n Field ∷ l)
-    (on_blank n 32 [] (name_of name ++ 10 ∷ rest) refl refl refl
-    ∙ (one_word n (name_of name) (10 ∷ rest) (solid_name name).0 (solid_name name).1 (λ _. refl) ∙ ap (λ l. word_of n (name_of name) ∷ l) (on_line_end false n 10 [] rest refl)))
+    ap (λ l. key_of n Field ∷ l) (one_word n (name_of name) (10 ∷ rest) (solid_name name).0 (solid_name name).1 (λ _. refl))
 
 -- what the words say
 same_key : (key : Keyword) → bytes_eq (letters key) (letters key) ≡ true
@@ -140,22 +124,8 @@ number_read last n v key ws h = rw (key_read last n key (word_of n (decimal v) �
 
 -- a digit begins no keyword
 no_key_digits : (ds : List ℕ) (key : Keyword) → AllDigits 10 ds → bytes_eq ds (letters key) ≡ false
-no_key_digits [] Field h = refl
-no_key_digits [] M h = refl
-no_key_digits [] N h = refl
-no_key_digits [] Matrix h = refl
-no_key_digits [] Vector h = refl
-no_key_digits [] Left h = refl
-no_key_digits [] Right h = refl
-no_key_digits [] Out h = refl
-no_key_digits (c ∷ cs) Field h = let low = digit_from_value c h.0 in rw (ne_eqb c 102 (λ e. omega arith))
-no_key_digits (c ∷ cs) M h = let low = digit_from_value c h.0 in rw (ne_eqb c 109 (λ e. omega arith))
-no_key_digits (c ∷ cs) N h = let low = digit_from_value c h.0 in rw (ne_eqb c 110 (λ e. omega arith))
-no_key_digits (c ∷ cs) Matrix h = let low = digit_from_value c h.0 in rw (ne_eqb c 109 (λ e. omega arith))
-no_key_digits (c ∷ cs) Vector h = let low = digit_from_value c h.0 in rw (ne_eqb c 118 (λ e. omega arith))
-no_key_digits (c ∷ cs) Left h = let low = digit_from_value c h.0 in rw (ne_eqb c 108 (λ e. omega arith))
-no_key_digits (c ∷ cs) Right h = let low = digit_from_value c h.0 in rw (ne_eqb c 114 (λ e. omega arith))
-no_key_digits (c ∷ cs) Out h = let low = digit_from_value c h.0 in rw (ne_eqb c 111 (λ e. omega arith))
+no_key_digits [] key h = grind (arith, nat_tests)
+no_key_digits (c ∷ cs) key h = let low = digit_from_value c h.0 in grind (arith, nat_tests)
 
 module _ (last bound : ℕ) (small : bound ≤ 2 ^ 32) where
   list_read : (n k : ℕ) (key : Keyword) (vs : List ℕ) (ws : List Located) → BelowAll bound vs → numbers_until last bound key (numerals n vs ++ (key_of k key ∷ ws)) ≡ Ok (vs, ws)
@@ -170,8 +140,7 @@ module _ (last bound : ℕ) (small : bound ≤ 2 ^ 32) where
   end_read n (v ∷ vs) h = rw (value_read bound n v small h.0, end_read n vs h.1)
 
 small_order : (name : FieldName) → order name ≤ 2 ^ 32
-small_order Mersenne31 = omega arith
-small_order Gf256 = omega arith
+small_order name = grind arith
 
 wide : (bound : ℕ) (vs : List ℕ) → bound ≤ 2 ^ 32 → BelowAll bound vs → BelowAll (2 ^ 64) vs
 wide bound [] b h = tt

@@ -1,5 +1,5 @@
 -- What each fault tells.
-use Rattle.std.specs.Prelude.{ℕ, List, [], ◌∷◌}
+use Rattle.std.specs.Prelude.{ℕ, List, [], ◌∷◌, codes}
 use Rattle.claim_file.specs.declared.ReadFault.{ReadFault}
 use Rattle.claim_file.specs.declared.ReadFault.TheVariants.{UnexpectedWord, TooLarge, Unfinished, NoMemory}
 
@@ -13,3 +13,10 @@ told (UnexpectedWord line) = (71, line ∷ [])
 told (TooLarge line) = (72, line ∷ [])
 told (Unfinished line) = (73, line ∷ [])
 told NoMemory = (74, [])
+
+-- a fault in words
+abbrev pub fault_text : ReadFault → List ℕ
+fault_text (UnexpectedWord line) = codes "this word is not the one that is due here"
+fault_text (TooLarge line) = codes "this number is too large"
+fault_text (Unfinished line) = codes "the file ends before its last section"
+fault_text NoMemory = codes "no memory is left"

@@ -1,5 +1,5 @@
 -- What the words of a claim file say.
-use Rattle.std.specs.Prelude.{ℕ, ◌^◌, Bool, cond, List, [], ◌∷◌, Some, None, Ok, Err, codes, Option, Result, nat_lt}
+use Rattle.std.specs.Prelude.{ℕ, ◌^◌, Bool, false, cond, List, [], ◌∷◌, Some, None, Ok, Err, codes, Option, Result, nat_lt}
 use Rattle.std.specs.Str.{bytes_eq}
 use Rattle.claim_file.specs.declared.FieldName.{FieldName}
 use Rattle.claim_file.specs.declared.FieldName.TheVariants.{Mersenne31, Gf256}
@@ -107,6 +107,16 @@ numbers_until last bound key (w ∷ ws) = cond (is_key w key) (Ok ([], ws)) (in_
 unfoldable pub numbers_to_end : ℕ → List Located → Said (List ℕ)
 numbers_to_end bound [] = Ok ([], [])
 numbers_to_end bound (w ∷ ws) = in_front (value_of bound w) (numbers_to_end bound ws)
+
+-- the numbers below the bound up to the keyword, or with none up to the end
+abbrev pub numbers : ℕ → ℕ → Option Keyword → List Located → Said (List ℕ)
+numbers last bound (Some key) ws = numbers_until last bound key ws
+numbers last bound None ws = numbers_to_end bound ws
+
+-- whether such a list ends with a word
+abbrev pub ends : Option Keyword → Located → Bool
+ends (Some key) w = is_key w key
+ends None w = false
 
 -- field NAME m NUMBER n NUMBER matrix
 unfoldable pub heading : ℕ → List Located → Said Heading

@@ -1,18 +1,20 @@
 // Reads a claim from a text.
 #![tactic(auto)]
 
-ghost use Rattle.std.specs.Prelude.{◌≡◌, ℕ, List};
+ghost use Rattle.std.specs.Prelude.{◌≡◌, [], ◌∷◌, Some, find};
+ghost use Rattle.std.specs.Str.{bytes_eq};
+ghost use Rattle.claim_file.specs.declared.FieldName.TheVariants.{Mersenne31, Gf256};
 ghost use Rattle.claim_file.specs.declared.ReadFault.TheVariants.{NoMemory};
 ghost use Rattle.std.specs.Option.{option_to_list};
-ghost use Rattle.claim_file.specs.Lexical.{words as located_words};
-ghost use Rattle.claim_file.specs.State.{text_of, ahead};
-ghost use Rattle.claim_file.specs.Faults.{told};
+ghost use Rattle.claim_file.specs.Faults.{told, fault_text};
 ghost use Rattle.claim_file.specs.Numbers.{number_of};
 ghost use Rattle.claim_file.specs.Grammar.{order, element_of, heading, read_spec};
-ghost use Rattle.claim_file.specs.Written.{ReadsBack};
+ghost use Rattle.claim_file.specs.Written.{name_of, ReadsBack};
 ghost use Rattle.claim_file.specs.Answer.{meaning, Tells, Reads};
 
 use std::alloc::{AllocError, AllocFailed, Global};
+use std::error::Error;
+use std::fmt;
 
 mod numbers;
 mod words;
@@ -28,6 +30,9 @@ pub enum FieldName {
 }
 
 impl FieldName {
+    // Each field.
+    const ALL: [FieldName; 2] = [FieldName::Mersenne31, FieldName::Gf256];
+
     // The elements of the field are the numbers below this.
     pub fn order(self) -> u32
         ensures { result ≡ order self }
@@ -36,6 +41,33 @@ impl FieldName {
             FieldName::Mersenne31 => 2_147_483_647,
             FieldName::Gf256 => 256,
         }
+    }
+
+    // How a claim names the field.
+    fn name(self) -> &'static str
+        ensures { result.now ≡ name_of self }
+    {
+        match self {
+            FieldName::Mersenne31 => "mersenne31",
+            FieldName::Gf256 => "gf256",
+        }
+    }
+
+    // The field that a claim names so, if there is one.
+    fn named(name: &[u8]) -> Option<FieldName>
+        ensures { result ≡ find (λ field. bytes_eq name.now (name_of field)) (Mersenne31 ∷ Gf256 ∷ []) }
+    {
+        FieldName::ALL
+            .into_iter()
+            .find(|field| field.name().as_bytes() == name)
+    }
+}
+
+impl fmt::Display for FieldName {
+    ghost output = { λ field. Some (name_of field) };
+
+    fn fmt<W: fmt::Write>(&self, f: &mut fmt::Formatter<W>) -> fmt::Result {
+        f.write_str(self.name())
     }
 }
 
@@ -48,7 +80,7 @@ struct Heading {
 }
 
 // A claim as its text says it.
-#[derive(Debug, Drop)]
+#[derive(PartialEq, Eq, Debug, Drop)]
 pub struct ClaimFile {
     pub field: FieldName,
     pub m: u32,
@@ -91,13 +123,28 @@ impl ReadFault {
         ensures { option_to_list result ≡ (told self).1 }
     {
         match self {
-            ReadFault::UnexpectedWord { line } => Some(line),
-            ReadFault::TooLarge { line } => Some(line),
-            ReadFault::Unfinished { line } => Some(line),
+            ReadFault::UnexpectedWord { line }
+            | ReadFault::TooLarge { line }
+            | ReadFault::Unfinished { line } => Some(line),
             ReadFault::NoMemory => None,
         }
     }
 }
+
+impl fmt::Display for ReadFault {
+    ghost output = { λ fault. Some (fault_text fault) };
+
+    fn fmt<W: fmt::Write>(&self, f: &mut fmt::Formatter<W>) -> fmt::Result {
+        f.write_str(match self {
+            ReadFault::UnexpectedWord { .. } => "this word is not the one that is due here",
+            ReadFault::TooLarge { .. } => "this number is too large",
+            ReadFault::Unfinished { .. } => "the file ends before its last section",
+            ReadFault::NoMemory => "no memory is left",
+        })
+    }
+}
+
+impl Error for ReadFault {}
 
 impl From<AllocError> for ReadFault {
     ghost from_gives = { λ _ r. r ≡ NoMemory };
@@ -127,17 +174,17 @@ fn read_heading(words: &mut Words<'_>) -> Result<Heading, ReadFault>
     Ok(Heading { field, m, n })
 }
 
-// The claim that the words ahead say, or their first fault.
-fn read_claim(words: &mut Words<'_>, heap: Global) -> Result<ClaimFile, ReadFault>
-    ensures { (text : List ℕ) → text_of words.old ≡ text → ahead words.old ≡ located_words text → Tells meaning result (read_spec text) }
+// The claim that a text says, or its first fault.
+pub fn read(heap: Global, text: &[u8]) -> Result<ClaimFile, ReadFault>
+    ensures { Tells meaning result (read_spec text.now) }
 {
-    let Heading { field, m, n } = read_heading(words)?;
-    let bound = u64::from(field.order());
-    let matrix = words.numbers_until(heap, bound, Keyword::Vector)?;
-    let vector = words.numbers_until(heap, bound, Keyword::Left)?;
-    let left = words.numbers_until(heap, bound, Keyword::Right)?;
-    let right = words.numbers_until(heap, bound, Keyword::Out)?;
-    let out = words.numbers_to_end(heap, bound)?;
+    let mut words = Words::new(text);
+    let Heading { field, m, n } = read_heading(&mut words)?;
+    let matrix = words.elements(heap, field, Some(Keyword::Vector))?;
+    let vector = words.elements(heap, field, Some(Keyword::Left))?;
+    let left = words.elements(heap, field, Some(Keyword::Right))?;
+    let right = words.elements(heap, field, Some(Keyword::Out))?;
+    let out = words.elements(heap, field, None)?;
     Ok(ClaimFile {
         field,
         m,
@@ -150,22 +197,13 @@ fn read_claim(words: &mut Words<'_>, heap: Global) -> Result<ClaimFile, ReadFaul
     })
 }
 
-// The claim that a text says, or its first fault.
-pub fn read(heap: Global, text: &[u8]) -> Result<ClaimFile, ReadFault>
-    ensures { Tells meaning result (read_spec text.now) }
-{
-    let mut words = Words::new(text);
-    read_claim(&mut words, heap)
-}
-
 // The element of a field that a word spells, by its number, where it spells one.
 pub fn element(field: FieldName, word: &[u8]) -> Option<u32>
     ensures { result ≡ element_of field (number_of word.now) }
 {
-    match number(word) {
-        Some(v) if v < u64::from(field.order()) => Some(v as u32),
-        _ => None,
-    }
+    number(word)
+        .and_then(|value| u32::try_from(value).ok())
+        .filter(|&value| value < field.order())
 }
 
 // Every claim that a file can say is read back from the text that is written of it.

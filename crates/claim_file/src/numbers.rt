@@ -1,41 +1,32 @@
 // Which number a word spells.
 ghost use Rattle.std.specs.Prelude.{◌≡◌, ◌≤◌};
-ghost use Rattle.claim_file.specs.Numbers.{below_base, digit_value, spelled, number_of, capped};
+ghost use Rattle.claim_file.specs.Numbers.{digit_value, spelled, number_of, capped};
 
 // Stands for every number that is not below it.
 pub(crate) const CAP: u64 = 4_294_967_296;
 
-// A number that is below the base.
-fn below(base: u64, value: u8) -> Option<u64>
-    ensures { result ≡ below_base base value }
-{
-    let value = u64::from(value);
-    if value < base { Some(value) } else { None }
-}
-
 // The number of a digit of the base.
-fn digit(base: u64, b: u8) -> Option<u64>
+fn digit(base: u32, b: u8) -> Option<u32>
+    requires low { 2 ≤ base }
+    requires high { base ≤ 16 }
     ensures { result ≡ digit_value base b }
 {
-    match b {
-        b'0'..=b'9' => below(base, b - b'0'),
-        b'a'..=b'f' => below(base, b - b'a' + 10),
-        b'A'..=b'F' => below(base, b - b'A' + 10),
-        _ => None,
-    }
+    char::from(b).to_digit(base)
 }
 
 // What one or more digits spell, or `CAP` where that is more.
-fn digits(base: u64, text: &[u8]) -> Option<u64>
-    requires { (1 ≤ base) × (base ≤ 16) }
+fn digits(base: u32, text: &[u8]) -> Option<u64>
+    requires low { 2 ≤ base }
+    requires high { base ≤ 16 }
     ensures { result ≡ capped (spelled base text.now) }
 {
     if text.is_empty() {
         return None;
     }
     let mut value: u64 = 0;
-    for b in text {
-        value = (value * base + digit(base, *b)?).min(CAP);
+    for &b in text {
+        let digit = u64::from(digit(base, b)?);
+        value = (value * u64::from(base) + digit).min(CAP);
     }
     Some(value)
 }

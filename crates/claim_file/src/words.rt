@@ -1,5 +1,5 @@
 // A text, read word by word.
-ghost use Rattle.std.specs.Prelude.{◌+◌, ◌≤◌};
+ghost use Rattle.std.specs.Prelude.{◌+◌, ◌≤◌, length};
 
 mod lex;
 mod parts;
@@ -11,13 +11,13 @@ pub(crate) struct Word<'a> {
     pub line: usize,
 }
 
-// A text of which the bytes before `pos` are read; what comes next is on line `line`.
+// A text of which `rest` is still to be read; that begins on line `line`.
 #[derive(Drop)]
 pub(crate) struct Words<'a> {
     text: &'a [u8],
-    pos: usize,
+    rest: &'a [u8],
     line: usize,
-    ghost counted: { line ≤ pos + 1 },
+    ghost counted: { line + length rest.now ≤ length text.now + 1 },
 }
 
 // The words that lead the parts of a claim.

@@ -1,33 +1,33 @@
-use Rattle.std.proofs.lemmas.Result.{err_from_is_err_and}
-use Rattle.claim_file.proofs.Chains.{at_err}
-use Rattle.claim_file.proofs.Headings.{break_1, break_2, break_3, break_4, break_5, headed}
+use Rattle.std.proofs.Common.{refl}
+use Rattle.claim_file.specs.Grammar.{heading}
+use Rattle.claim_file.proofs.Chains.{and_ok, and_err, passed_on}
 use Rattle.claim_file.proofs.read_heading.Goals as goal
 
 pub returns-in_err-keyword : goal.returns-in_err-keyword
-returns-in_err-keyword c =
-    let p = err_from_is_err_and c.from_residual.result c.from_residual.ensures.1 in
-    at_err p.1 p.2 (break_1 c.in_err-keyword.ensures)
+unfolding heading
+returns-in_err-keyword c = passed_on _ c.from_residual.ensures.1 (and_err _ _ c.in_err-keyword.ensures)
 
 pub returns-in_err-field : goal.returns-in_err-field
+unfolding heading
 returns-in_err-field c =
-    let p = err_from_is_err_and c.from_residual-in_err-field.result c.from_residual-in_err-field.ensures.1 in
-    at_err p.1 p.2 (break_2 c.in_ok-keyword.ensures c.in_err-field.ensures)
+    passed_on _ c.from_residual-in_err-field.ensures.1 (and_ok _ c.in_ok-keyword.ensures (and_err _ _ c.in_err-field.ensures))
 
 pub returns-in_err-m : goal.returns-in_err-m
+unfolding heading
 returns-in_err-m c =
-    let p = err_from_is_err_and c.from_residual-in_err-m.result c.from_residual-in_err-m.ensures.1 in
-    at_err p.1 p.2 (break_3 c.in_ok-keyword.ensures c.in_ok-field.ensures c.in_err-m.ensures)
+    passed_on _ c.from_residual-in_err-m.ensures.1 (and_ok _ c.in_ok-keyword.ensures (and_ok _ c.in_ok-field.ensures (and_err _ _ c.in_err-m.ensures)))
 
 pub returns-in_err-n : goal.returns-in_err-n
+unfolding heading
 returns-in_err-n c =
-    let p = err_from_is_err_and c.from_residual-in_err-n.result c.from_residual-in_err-n.ensures.1 in
-    at_err p.1 p.2 (break_4 c.in_ok-keyword.ensures c.in_ok-field.ensures c.in_ok-m.ensures c.in_err-n.ensures)
+    passed_on _ c.from_residual-in_err-n.ensures.1 (and_ok _ c.in_ok-keyword.ensures (and_ok _ c.in_ok-field.ensures (and_ok _ c.in_ok-m.ensures (and_err _ _ c.in_err-n.ensures))))
 
 pub returns-in_err-keyword-2 : goal.returns-in_err-keyword-2
+unfolding heading
 returns-in_err-keyword-2 c =
-    let p = err_from_is_err_and c.from_residual-in_err-keyword-2.result c.from_residual-in_err-keyword-2.ensures.1 in
-    at_err p.1 p.2 (break_5 c.in_ok-keyword.ensures c.in_ok-field.ensures c.in_ok-m.ensures c.in_ok-n.ensures c.in_err-keyword-2.ensures)
+    passed_on _ c.from_residual-in_err-keyword-2.ensures.1 (and_ok _ c.in_ok-keyword.ensures (and_ok _ c.in_ok-field.ensures (and_ok _ c.in_ok-m.ensures (and_ok _ c.in_ok-n.ensures (and_err _ _ c.in_err-keyword-2.ensures)))))
 
 pub returns : goal.returns
+unfolding heading
 returns c =
-    headed c.in_ok-keyword.ensures c.in_ok-field.ensures c.in_ok-m.ensures c.in_ok-n.ensures c.in_ok-keyword-2.ensures
+    and_ok _ c.in_ok-keyword.ensures (and_ok _ c.in_ok-field.ensures (and_ok _ c.in_ok-m.ensures (and_ok _ c.in_ok-n.ensures (and_ok _ c.in_ok-keyword-2.ensures (record { tells = refl; kept = refl })))))

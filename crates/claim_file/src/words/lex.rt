@@ -1,6 +1,7 @@
 // Cuts a text into its words.
-ghost use Rattle.std.specs.Prelude.{◌≡◌, ℕ, ◌+◌, ◌^◌, ◌<◌, ◌≤◌, true, false, ◌||◌, List, ◌++◌, length, take, drop, if◌then◌else◌, ◌==◌, nat_eq, slice_index};
-ghost use Rattle.claim_file.specs.Lexical.{blank, next_line, bare, words_after, last_line, words};
+ghost use Rattle.std.specs.Prelude.{◌≡◌, ◌+◌, ◌^◌, ◌<◌, ◌≤◌, false, ◌||◌, length, if◌then◌else◌, ◌==◌, filter};
+ghost use Rattle.std.specs.List.{position_or_len};
+ghost use Rattle.claim_file.specs.Lexical.{blank, next_line, last_line, words};
 ghost use Rattle.claim_file.specs.State.{text_of, ahead, apart, Passed, Taken};
 
 use super::{Word, Words};
@@ -14,7 +15,7 @@ const COMMENT: u8 = b'#';
 fn is_blank(b: u8) -> bool
     ensures { result ≡ blank b }
 {
-    b == b' ' || b == b'\t' || b == b'\r' || b == LINE_END
+    matches!(b, b' ' | b'\t' | b'\r' | LINE_END)
 }
 
 // Whether a byte belongs to no word.
@@ -33,7 +34,7 @@ fn in_gap(comment: bool, b: u8) -> bool
 
 // Whether a comment goes on after a byte of a gap.
 fn in_comment(comment: bool, b: u8) -> bool
-    ensures { result ≡ (if nat_eq b 10 then false else comment || b == 35) }
+    ensures { result ≡ (if b == 10 then false else comment || b == 35) }
 {
     b != LINE_END && (comment || b == COMMENT)
 }
@@ -46,44 +47,30 @@ fn line_after(line: usize, b: u8) -> usize
     if b == LINE_END { line + 1 } else { line }
 }
 
-// Passes blanks and comments, up to the next word or the text's end: where that is, and its line.
-fn pass_gap(text: &[u8], from: usize, first: usize) -> (usize, usize)
-    requires { first ≤ from + 1 }
-    ensures { Passed text.now from first result.0 result.1 }
-{
-    let mut comment = false;
-    let mut pos = from;
-    let mut line = first;
-    while pos < text.len() && in_gap(comment, text[pos]) {
-        comment = in_comment(comment, text[pos]);
-        line = line_after(line, text[pos]);
-        pos += 1;
-    }
-    (pos, line)
-}
-
 // How many bytes at the front belong to one word.
 fn word_len(rest: &[u8]) -> usize
     ensures within { result ≤ length rest.now }
-    ensures one { (n : ℕ) (w : List ℕ) → words_after n w (bare false rest.now) ≡ words_after n (w ++ take result rest.now) (bare false (drop result rest.now)) }
-    ensures stops { result < length rest.now → apart (slice_index rest.now result) ≡ true }
+    ensures first { result ≡ position_or_len apart rest.now }
 {
-    let mut n = 0;
-    while n < rest.len() && !is_apart(rest[n]) {
-        n += 1;
-    }
-    n
+    rest.iter().position(|&b| is_apart(b)).unwrap_or(rest.len())
+}
+
+// How many lines end in a text.
+fn line_ends(text: &[u8]) -> usize
+    ensures within { result ≤ length text.now }
+    ensures count { result ≡ length (filter (λ b. b == 10) text.now) }
+{
+    text.iter().filter(|&&b| b == LINE_END).count()
 }
 
 // The line of the last byte.
 pub(crate) fn last_line(text: &[u8]) -> usize
     ensures { result ≡ last_line 1 text.now }
 {
-    let mut line = 1;
-    for i in 1..text.len() {
-        line = line_after(line, text[i - 1]);
+    match text.split_last() {
+        Some((_, before)) => 1 + line_ends(before),
+        None => 1,
     }
-    line
 }
 
 impl<'a> Words<'a> {
@@ -94,8 +81,23 @@ impl<'a> Words<'a> {
     {
         Words {
             text,
-            pos: 0,
+            rest: text,
             line: 1,
+        }
+    }
+
+    // Passes blanks and comments, up to the next word or the text's end.
+    fn pass_gap(&mut self)
+        ensures { Passed self.old self.new }
+    {
+        let mut comment = false;
+        while let Some((&b, rest)) = self.rest.split_first() {
+            if !in_gap(comment, b) {
+                return;
+            }
+            comment = in_comment(comment, b);
+            self.line = line_after(self.line, b);
+            self.rest = rest;
         }
     }
 
@@ -103,17 +105,15 @@ impl<'a> Words<'a> {
     pub(crate) fn next_word(&mut self) -> Option<Word<'a>>
         ensures { Taken self.old result self.new }
     {
-        let (pos, line) = pass_gap(self.text, self.pos, self.line);
-        if pos >= self.text.len() {
+        self.pass_gap();
+        if self.rest.is_empty() {
             return None;
         }
-        let rest = &self.text[pos..];
-        let n = word_len(rest);
-        self.pos = pos + n;
-        self.line = line;
+        let (bytes, rest) = self.rest.split_at(word_len(self.rest));
+        self.rest = rest;
         Some(Word {
-            bytes: &rest[0..n],
-            line,
+            bytes,
+            line: self.line,
         })
     }
 }

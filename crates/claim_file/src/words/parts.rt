@@ -1,10 +1,11 @@
 // The parts of a claim file, each read from the words ahead.
 ghost use Rattle.std.specs.Prelude.{◌≡◌, ◌^◌, ◌≤◌, Ok, Err, vec_items, MatchResult};
 ghost use Rattle.std.specs.Str.{bytes_eq};
-ghost use Rattle.claim_file.specs.declared.ReadFault.TheVariants.{UnexpectedWord};
-ghost use Rattle.claim_file.specs.State.{located};
+ghost use Rattle.claim_file.specs.declared.ReadFault.TheVariants.{UnexpectedWord, Unfinished};
+ghost use Rattle.claim_file.specs.Lexical.{last_line};
+ghost use Rattle.claim_file.specs.State.{text_of, located};
 ghost use Rattle.claim_file.specs.Faults.{told};
-ghost use Rattle.claim_file.specs.Grammar.{letters, is_key, value_of, next_word, keyword, field_name, number_after, numbers_until, numbers_to_end};
+ghost use Rattle.claim_file.specs.Grammar.{order, letters, value_of, next_word, keyword, field_name, number_after, ends, numbers};
 ghost use Rattle.claim_file.specs.Answer.{Reads};
 
 use super::lex::last_line;
@@ -15,65 +16,77 @@ use std::alloc::Global;
 
 impl Keyword {
     // How the keyword is spelled.
-    fn letters(self) -> &'static [u8]
+    fn name(self) -> &'static str
         ensures { result.now ≡ letters self }
     {
         match self {
-            Keyword::Field => b"field",
-            Keyword::M => b"m",
-            Keyword::N => b"n",
-            Keyword::Matrix => b"matrix",
-            Keyword::Vector => b"vector",
-            Keyword::Left => b"left",
-            Keyword::Right => b"right",
-            Keyword::Out => b"out",
+            Keyword::Field => "field",
+            Keyword::M => "m",
+            Keyword::N => "n",
+            Keyword::Matrix => "matrix",
+            Keyword::Vector => "vector",
+            Keyword::Left => "left",
+            Keyword::Right => "right",
+            Keyword::Out => "out",
         }
     }
 }
 
-// Whether a word is spelled so.
-fn same(word: &[u8], letters: &[u8]) -> bool
-    ensures { result ≡ bytes_eq word.now letters.now }
-{
-    word == letters
-}
+impl Word<'_> {
+    // Whether the word is spelled so.
+    fn is(&self, name: &str) -> bool
+        ensures { result ≡ bytes_eq self.now.bytes.now name.now }
+    {
+        self.bytes == name.as_bytes()
+    }
 
-// Whether a word is the keyword.
-fn is_key(word: Word<'_>, key: Keyword) -> bool
-    ensures { result ≡ is_key (located word.entry) key }
-{
-    same(word.bytes, key.letters())
-}
+    // Whether a list that goes up to a keyword, or to the text's end, ends with the word.
+    fn ends(&self, end: Option<Keyword>) -> bool
+        ensures { result ≡ ends end (located self.now) }
+    {
+        match end {
+            Some(key) => self.is(key.name()),
+            None => false,
+        }
+    }
 
-// The fault of a word that is not due where it stands.
-fn unexpected(word: Word<'_>) -> ReadFault
-    ensures { result ≡ UnexpectedWord word.entry.line }
-{
-    ReadFault::UnexpectedWord { line: word.line }
-}
+    // The fault of a word that is not due where it stands.
+    fn unexpected(&self) -> ReadFault
+        ensures { result ≡ UnexpectedWord self.now.line }
+    {
+        ReadFault::UnexpectedWord { line: self.line }
+    }
 
-// The number below the bound that a word spells.
-fn value(word: Word<'_>, bound: u64) -> Result<u32, ReadFault>
-    requires { bound ≤ 2 ^ 32 }
-    ensures { MatchResult result (λ v. value_of bound (located word.entry) ≡ Ok v) (λ e. value_of bound (located word.entry) ≡ Err (told e)) }
-{
-    match number(word.bytes) {
-        None => Err(unexpected(word)),
-        Some(v) if v < bound => Ok(v as u32),
-        Some(_) => Err(ReadFault::TooLarge { line: word.line }),
+    // The number below the bound that the word spells.
+    fn value(&self, bound: u64) -> Result<u32, ReadFault>
+        requires { bound ≤ 2 ^ 32 }
+        ensures { MatchResult result (λ v. value_of bound (located self.now) ≡ Ok v) (λ e. value_of bound (located self.now) ≡ Err (told e)) }
+    {
+        match number(self.bytes) {
+            None => Err(self.unexpected()),
+            Some(v) if v < bound => Ok(v as u32),
+            Some(_) => Err(ReadFault::TooLarge { line: self.line }),
+        }
     }
 }
 
 impl<'a> Words<'a> {
+    // The fault of a text that ends too early.
+    fn unfinished(&self) -> ReadFault
+        ensures { result ≡ Unfinished (last_line 1 (text_of self.now)) }
+    {
+        ReadFault::Unfinished {
+            line: last_line(self.text),
+        }
+    }
+
     // The next word, which must be there.
     fn due(&mut self) -> Result<Word<'a>, ReadFault>
         ensures { Reads located self.old result self.new next_word }
     {
         match self.next_word() {
             Some(word) => Ok(word),
-            None => Err(ReadFault::Unfinished {
-                line: last_line(self.text),
-            }),
+            None => Err(self.unfinished()),
         }
     }
 
@@ -82,10 +95,10 @@ impl<'a> Words<'a> {
         ensures { Reads (λ x. x) self.old result self.new (λ last. keyword last key) }
     {
         let word = self.due()?;
-        if is_key(word, key) {
+        if word.is(key.name()) {
             Ok(())
         } else {
-            Err(unexpected(word))
+            Err(word.unexpected())
         }
     }
 
@@ -94,13 +107,7 @@ impl<'a> Words<'a> {
         ensures { Reads (λ x. x) self.old result self.new field_name }
     {
         let word = self.due()?;
-        if same(word.bytes, b"mersenne31") {
-            Ok(FieldName::Mersenne31)
-        } else if same(word.bytes, b"gf256") {
-            Ok(FieldName::Gf256)
-        } else {
-            Err(unexpected(word))
-        }
+        FieldName::named(word.bytes).ok_or(word.unexpected())
     }
 
     // The keyword, and one number below 2^32.
@@ -108,39 +115,29 @@ impl<'a> Words<'a> {
         ensures { Reads (λ x. x) self.old result self.new (λ last. number_after last key) }
     {
         self.keyword(key)?;
-        let word = self.due()?;
-        value(word, CAP)
+        self.due()?.value(CAP)
     }
 
-    // The numbers below the bound up to the keyword, which is taken too.
-    pub(crate) fn numbers_until(
+    // The elements of the field up to the keyword, which is taken too, or up to the text's end.
+    pub(crate) fn elements(
         &mut self,
         heap: Global,
-        bound: u64,
-        key: Keyword,
+        field: FieldName,
+        end: Option<Keyword>,
     ) -> Result<Vec<u32>, ReadFault>
-        requires { bound ≤ 2 ^ 32 }
-        ensures { Reads vec_items self.old result self.new (λ last. numbers_until last bound key) }
+        ensures { Reads vec_items self.old result self.new (λ last. numbers last (order field) end) }
     {
-        let mut list = Vec::new(heap);
-        loop {
-            let word = self.due()?;
-            if is_key(word, key) {
-                return Ok(list);
-            }
-            list.push(value(word, bound)?)?;
-        }
-    }
-
-    // The numbers below the bound up to the text's end.
-    pub(crate) fn numbers_to_end(&mut self, heap: Global, bound: u64) -> Result<Vec<u32>, ReadFault>
-        requires { bound ≤ 2 ^ 32 }
-        ensures { Reads vec_items self.old result self.new (λ _. numbers_to_end bound) }
-    {
+        let bound = u64::from(field.order());
         let mut list = Vec::new(heap);
         while let Some(word) = self.next_word() {
-            list.push(value(word, bound)?)?;
+            if word.ends(end) {
+                return Ok(list);
+            }
+            list.push(word.value(bound)?)?;
         }
-        Ok(list)
+        match end {
+            Some(_) => Err(self.unfinished()),
+            None => Ok(list),
+        }
     }
 }

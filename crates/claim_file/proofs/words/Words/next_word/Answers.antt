@@ -1,18 +1,19 @@
-use Rattle.std.proofs.Common.{◌-◌, false, sym, refl, ◌∙◌, arith}
-use Rattle.std.proofs.lemmas.List.{take_rest}
+use Rattle.std.proofs.Common.{false, sym, ◌∙◌, arith, true-eqb, false-eqb}
 use Rattle.claim_file.specs.State.{ahead}
 use Rattle.claim_file.proofs.Lexing.{gap_end, word_taken}
 use Rattle.claim_file.proofs.words.Words.next_word.Goals as goal
 
-pub returns-then-pos-self : goal.returns-then-pos-self
+pub returns-then-is_empty : goal.returns-then-is_empty
 unfolding ahead
-returns-then-pos-self c =
-    let none = sym c.pass_gap-pos.ensures.same ∙ gap_end c.args.self.now.text.now false c.pass_gap-pos.result.1 c.pass_gap-pos.result.0 (omega arith) in
-    (refl, none, none)
+returns-then-is_empty c =
+    let gap = c.pass_gap.ensures in
+    let none = gap_end false c.pass_gap.new.self.line c.pass_gap.new.self.rest.now (true-eqb _ 0 c.if-is_empty.ensures) in
+    (gap.kept, sym gap.same ∙ none, none)
 
 pub returns : goal.returns
 unfolding ahead
 returns c =
-    let told = c.word_len-n.ensures in
-    let gap = c.pass_gap-pos.ensures in
-    (refl, sym gap.same ∙ word_taken c.args.self.now.text.now _ c.pass_gap-pos.result.0 c.word_len-n.result (c.word_len-n.result - 0) c.pass_gap-pos.result.1 (omega arith) (take_rest c.args.self.now.text.now c.pass_gap-pos.result.0) (omega arith) (gap.word_next (omega arith)) told.within told.one told.stops)
+    let gap = c.pass_gap.ensures in
+    let some = false-eqb _ 0 c.if-is_empty.ensures in
+    let word = word_taken c.pass_gap.new.self.line c.word_len.result c.pass_gap.new.self.rest.now c.word_len.ensures.first (omega arith) (gap.word_next (omega arith)) in
+    (gap.kept, sym gap.same ∙ rw (c.split_at.ensures.front, c.split_at.ensures.back) word)

@@ -1,7 +1,7 @@
-use Rattle.std.proofs.Common.{sym, ◌∙◌, arith}
-use Rattle.claim_file.proofs.Lexing.{word_more}
+use Rattle.std.proofs.Common.{sym, rules}
+use Rattle.std.proofs.lemmas.List.Sums.{position_or_len_is}
+use Rattle.claim_file.specs.State.{apart}
 use Rattle.claim_file.proofs.words.lex.word_len.Goals as goal
 
-pub loop-n-preserved : goal.loop-n-preserved
-loop-n-preserved c =
-    (omega arith, λ n w. c.loop-n.invariant.1 n w ∙ word_more c.args.rest.now n c.loop-n.n w (omega arith) (sym c.if-not-is_apart.ensures))
+pub returns-clause-first : goal.returns-clause-first
+returns-clause-first c = sym (position_or_len_is apart c.args.rest.now c.unwrap_or.result 0 (search rules) (search rules) (search rules))
