@@ -1,14 +1,21 @@
--- The claim that a list of values stands for, where each value is the one of a word.
+-- The claim that lists of values stand for, where the values are those of words.
 use Rattle.std.proofs.Common.{◌≡◌, ℕ, List, map, ap, ◌∙◌}
 use mathlib.Core.List.{map-map}
 use Rattle.prover.specs.Claims.{claimed}
 
 module _ {X K : Type 0} (mean : X → K) (element : ℕ → X) where
-  pub words_stand : (xs ys : List X) (read words : List ℕ) → xs ≡ ys → ys ≡ map element read → read ≡ words → map mean xs ≡ map (λ w. mean (element w)) words
-  words_stand xs ys read words e f h = ap (map mean) (e ∙ f) ∙ map-map mean element read ∙ ap (map (λ w. mean (element w))) h
+  abbrev stands : ℕ → K
+  stands w = mean (element w)
 
-  -- lists that stand for the same elements make the same claim
-  pub same_claim : (m n : ℕ) (a b c d e : List X) (a' b' c' d' e' : List ℕ) → map mean a ≡ map (λ w. mean (element w)) a' → map mean b ≡ map (λ w. mean (element w)) b'
-      → map mean c ≡ map (λ w. mean (element w)) c' → map mean d ≡ map (λ w. mean (element w)) d' → map mean e ≡ map (λ w. mean (element w)) e'
-      → claimed mean m n a b c d e ≡ claimed (λ w. mean (element w)) m n a' b' c' d' e'
-  same_claim m n a b c d e a' b' c' d' e' ea eb ec ed ee = cc
+  -- a list of the values of words that are read
+  pub record Valued (xs : List X) (read words : List ℕ) : Type 0 where
+    pub values : xs ≡ map element read
+    pub is : read ≡ words
+
+  pub words_stand : (xs : List X) (read words : List ℕ) → Valued xs read words → map mean xs ≡ map stands words
+  words_stand xs read words v = ap (map mean) v.values ∙ map-map mean element read ∙ ap (map stands) v.is
+
+  pub same_claim : (m n : ℕ) (a b c d e : List X) (ra rb rc rd re wa wb wc wd we : List ℕ) → Valued a ra wa → Valued b rb wb → Valued c rc wc → Valued d rd wd → Valued e re we
+      → claimed mean m n a b c d e ≡ claimed stands m n wa wb wc wd we
+  same_claim m n a b c d e ra rb rc rd re wa wb wc wd we va vb vc vd ve =
+      cc (words_stand a ra wa va, words_stand b rb wb vb, words_stand c rc wc vc, words_stand d rd wd vd, words_stand e re we ve)

@@ -3,7 +3,6 @@ use Rattle.std.proofs.Common.{◌≡◌, ℕ, ◌%◌, List, [], ◌∷◌, map,
 use native.Mathlib.Nat.{mod-mod}
 use Rattle.field.proofs.Numbers.{below_path}
 use Rattle.algebra.specs.Relation.{Claim as Statement}
-use Rattle.prover.specs.Claims.{claimed}
 use Rattle.prover.specs.Findings.{Audited}
 use Rattle.prover.specs.declared.relation.Finding.{Finding}
 use Rattle.claim_file.specs.Grammar.{Claim, read_spec}
@@ -13,16 +12,16 @@ use Rattle.claim_file.specs.declared.FieldName.TheVariants.{Mersenne31, Gf256}
 use Rattle.claim_file.specs.declared.ReadFault.{ReadFault}
 use Rattle.claim_file.specs.declared.ReadFault.TheVariants.{NoMemory}
 use Rattle.gf256.specs.Gf256.{Byte, bytes, low}
-use Rattle.claim_check.specs.declared.CheckFault.{CheckFault}
-use Rattle.claim_check.specs.declared.CheckFault.TheVariants.{Unreadable, Refused}
-use Rattle.claim_check.specs.Outcome.{Audits, AuditsIn, Answers}
+use Rattle.claim_check.specs.declared.fault.CheckFault.{CheckFault}
+use Rattle.claim_check.specs.declared.fault.CheckFault.TheVariants.{Unreadable, Refused}
+use Rattle.claim_check.specs.Outcome.{stated, Audits, AuditsIn, Answers}
 
 -- the lowest byte of a word is its own lowest byte
 lowest : (ws : List ℕ) → map (λ w. low (w % 256)) ws ≡ map low ws
 lowest [] = refl
 lowest (w ∷ ws) = ap₂ ◌∷◌ (below_path 256 (mod-mod w 256)) (lowest ws)
 
-same_bytes : (c : Claim) → claimed (λ w. low (w % 256)) c.m c.n c.matrix c.vector c.left c.right c.out ≡ claimed low c.m c.n c.matrix c.vector c.left c.right c.out
+same_bytes : (c : Claim) → stated (λ w. low (w % 256)) c ≡ stated low c
 same_bytes c = cc (lowest c.matrix, lowest c.vector, lowest c.left, lowest c.right, lowest c.out)
 
 pub as_bytes : (c : Claim) (r : Result Finding CheckFault) → Audits bytes (λ w. low (w % 256)) c r → Audits bytes low c r

@@ -1,6 +1,7 @@
 -- What checking a claim file answers.
 use Rattle.std.specs.Prelude.{◌≡◌, ℕ, List, Ok, Err, Result}
 use Rattle.field.specs.Field.{Ops}
+use Rattle.algebra.specs.Relation.{Claim as Statement}
 use Rattle.prover.specs.Claims.{claimed}
 use Rattle.prover.specs.Findings.{Audited}
 use Rattle.prover.specs.Refusals.{told as refusal_told}
@@ -13,18 +14,22 @@ use Rattle.claim_file.specs.declared.FieldName.TheVariants.{Mersenne31, Gf256}
 use Rattle.claim_file.specs.declared.ReadFault.TheVariants.{NoMemory}
 use Rattle.mersenne31.specs.Mersenne31.{modulo, rem}
 use Rattle.gf256.specs.Gf256.{bytes, low}
-use Rattle.claim_check.specs.declared.CheckFault.{CheckFault}
-use Rattle.claim_check.specs.declared.CheckFault.TheVariants.{Unreadable, Refused}
+use Rattle.claim_check.specs.declared.fault.CheckFault.{CheckFault}
+use Rattle.claim_check.specs.declared.fault.CheckFault.TheVariants.{Unreadable, Refused}
 
 -- every fault with its number and the values that it tells: those of what it holds
 abbrev pub told : CheckFault → ℕ × List ℕ
 told (Unreadable e) = read_told e
 told (Refused e) = refusal_told e
 
+-- the claim that the words of c stand for
+abbrev pub stated : {K : Type 0} → (ℕ → K) → Claim → Statement K
+stated stands c = claimed stands c.m c.n c.matrix c.vector c.left c.right c.out
+
 -- an audit of the claim that the words of c stand for in a field; want of memory tells nothing
 abbrev pub Audits : {K : Type 0} → Ops K → (ℕ → K) → Claim → Result Finding CheckFault → Type 0
-Audits f stands c (Ok found) = Audited f (claimed stands c.m c.n c.matrix c.vector c.left c.right c.out) (Ok found)
-Audits f stands c (Err (Refused e)) = Audited f (claimed stands c.m c.n c.matrix c.vector c.left c.right c.out) (Err e)
+Audits f stands c (Ok found) = Audited f (stated stands c) (Ok found)
+Audits f stands c (Err (Refused e)) = Audited f (stated stands c) (Err e)
 Audits f stands c (Err (Unreadable e)) = e ≡ NoMemory
 
 -- the same over the field of a name

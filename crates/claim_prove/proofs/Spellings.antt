@@ -8,11 +8,13 @@ use Rattle.std.proofs.lemmas.Slice.{between_to_end}
 use Rattle.field.specs.Field.{Ops}
 use Rattle.algebra.specs.Relation.{Claim as Statement}
 use Rattle.prover.specs.Replies.{reply_cells, reply_in}
-use Rattle.prover.proofs.Replies.{map_part}
-use Rattle.claim_check.specs.declared.CheckFault.{CheckFault}
-use Rattle.claim_check.specs.declared.CheckFault.TheVariants.{Unreadable, Refused}
+use Rattle.prover.proofs.Parts.{map_part}
+use Rattle.prover.specs.Layouts.{layout_of, SplitAt}
+use Rattle.prover.specs.declared.layout.Reply.{Reply as LentReply}
+use Rattle.claim_check.specs.declared.fault.CheckFault.{CheckFault}
+use Rattle.claim_check.specs.declared.fault.CheckFault.TheVariants.{Unreadable, Refused}
 use Rattle.claim_prove.specs.declared.Proof.{Proof}
-use Rattle.claim_prove.specs.Proofs.{reply_of, EachWord, ProvedBy, Written}
+use Rattle.claim_prove.specs.Proofs.{reply_of, EachWord, ProvedBy, Spells, Written}
 
 pub all_map : {P Q : ℕ → Type 0} (xs : List ℕ) → ((w : ℕ) → P w → Q w) → AllByRecursion P xs → AllByRecursion Q xs
 all_map [] h a = tt
@@ -48,36 +50,33 @@ module _ {X K : Type 0} (mean : X → K) (element : ℕ → X) (spelling : X →
       each [] = tt
       each (x ∷ xs) = ((x, refl), each xs)
 
-  module _ (m n : ℕ) (is : List X) (long : length is ≡ reply_cells m n) (p : Proof)
-      (r_is : vec_items p.r ≡ map spelling (between 0 (3 * n + 1) is))
-      (q_is : vec_items p.q ≡ map spelling (between (3 * n + 1) (m * (3 * n + 1)) is))
-      (h1_is : vec_items p.h1 ≡ map spelling (between (m * (3 * n + 1)) (m * (3 * n + 1) + (6 * n + 1)) is))
-      (h2_is : vec_items p.h2 ≡ map spelling (between (m * (3 * n + 1) + (6 * n + 1)) (m * (3 * n + 1) + 8 * n) is)) where
+  -- the words of a proof, which are those of the polynomials that lie in the cells of a reply
+  module _ (m n : ℕ) (is : List X) (long : length is ≡ reply_cells m n) (reply : LentReply X) (split : SplitAt (layout_of m n) is reply) (p : Proof) (spells : Spells spelling reply p) where
     abbrev cells : List K
     cells = map mean (take (reply_cells m n) is)
 
     whole : map mean is ≡ cells
     whole = ap (map mean) (sym (take_all (reply_cells m n) is (omega arith)))
 
-    part : (a b : ℕ) (ws : List ℕ) → ws ≡ map spelling (between a b is) → map stands ws ≡ between a b cells
-    part a b ws e = stand_again ws (between a b is) e ∙ sym (map_part mean a b is) ∙ ap (between a b) whole
+    part : (a b : ℕ) (ws : List ℕ) (xs : List X) → ws ≡ map spelling xs → xs ≡ between a b is → map stands ws ≡ between a b cells
+    part a b ws xs e f = stand_again ws xs e ∙ ap (map mean) f ∙ sym (map_part mean a b is) ∙ ap (between a b) whole
 
     pub same_reply : reply_in m n cells ≡ reply_of stands p
     same_reply =
         let zero-less : 3 * n + 1 - 0 ≡ 3 * n + 1 = omega arith in
-        let r : take (3 * n + 1) cells ≡ map stands (vec_items p.r) = sym (part 0 (3 * n + 1) (vec_items p.r) r_is ∙ ap (λ (l : ℕ). take l cells) zero-less) in
-        let q : between (3 * n + 1) (m * (3 * n + 1)) cells ≡ map stands (vec_items p.q) = sym (part (3 * n + 1) (m * (3 * n + 1)) (vec_items p.q) q_is) in
+        let r : take (3 * n + 1) cells ≡ map stands (vec_items p.r) = sym (part 0 (3 * n + 1) (vec_items p.r) reply.r.now spells.r split.r_is ∙ ap (λ (l : ℕ). take l cells) zero-less) in
+        let q : between (3 * n + 1) (m * (3 * n + 1)) cells ≡ map stands (vec_items p.q) = sym (part (3 * n + 1) (m * (3 * n + 1)) (vec_items p.q) reply.q.now spells.q split.q_is) in
         let h1 : between (m * (3 * n + 1)) (m * (3 * n + 1) + (6 * n + 1)) cells ≡ map stands (vec_items p.h1) =
-        sym (part (m * (3 * n + 1)) (m * (3 * n + 1) + (6 * n + 1)) (vec_items p.h1) h1_is) in
+        sym (part (m * (3 * n + 1)) (m * (3 * n + 1) + (6 * n + 1)) (vec_items p.h1) reply.h1.now spells.h1 split.h1_is) in
         let h2 : drop (m * (3 * n + 1) + (6 * n + 1)) cells ≡ map stands (vec_items p.h2) =
-        sym (part (m * (3 * n + 1) + (6 * n + 1)) (m * (3 * n + 1) + 8 * n) (vec_items p.h2) h2_is
+        sym (part (m * (3 * n + 1) + (6 * n + 1)) (m * (3 * n + 1) + 8 * n) (vec_items p.h2) reply.h2.now spells.h2 split.h2_is
         ∙ between_to_end cells (m * (3 * n + 1) + (6 * n + 1)) (m * (3 * n + 1) + 8 * n) (omega (arith, ap length (sym whole), length-map is mean))) in
         cc (r, q, h1, h2)
 
     pub written : EachWord (Written spelling) p
     written = record {
-      in_r = all_written (vec_items p.r) (between 0 (3 * n + 1) is) r_is;
-      in_q = all_written (vec_items p.q) (between (3 * n + 1) (m * (3 * n + 1)) is) q_is;
-      in_h1 = all_written (vec_items p.h1) (between (m * (3 * n + 1)) (m * (3 * n + 1) + (6 * n + 1)) is) h1_is;
-      in_h2 = all_written (vec_items p.h2) (between (m * (3 * n + 1) + (6 * n + 1)) (m * (3 * n + 1) + 8 * n) is) h2_is;
+      in_r = all_written (vec_items p.r) reply.r.now spells.r;
+      in_q = all_written (vec_items p.q) reply.q.now spells.q;
+      in_h1 = all_written (vec_items p.h1) reply.h1.now spells.h1;
+      in_h2 = all_written (vec_items p.h2) reply.h2.now spells.h2;
     }

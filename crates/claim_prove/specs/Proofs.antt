@@ -1,23 +1,23 @@
 -- What proving a claim file answers.
-use Rattle.std.specs.Prelude.{◌≡◌, ℕ, ◌<◌, ◌≤◌, [], map, Some, None, Ok, Err, vec_items, Result}
+use Rattle.std.specs.Prelude.{◌≡◌, ℕ, ◌<◌, map, Some, None, Ok, Err, vec_items, Result}
 use Rattle.std.specs.List.{AllByRecursion}
 use Rattle.field.specs.Field.{Ops}
 use Rattle.algebra.specs.Relation.{Claim as Statement}
 use Rattle.algebra.specs.Proofs.{Reply}
-use Rattle.prover.specs.Claims.{claimed}
 use Rattle.prover.specs.Refusals.{told}
 use Rattle.prover.specs.Replies.{reply_cells, proof_refusal, Replied}
-use Rattle.prover.specs.declared.layout.Layout.{Layout}
+use Rattle.prover.specs.declared.claim.Challenges.{Challenges}
+use Rattle.prover.specs.declared.layout.Reply.{Reply as LentReply}
 use Rattle.claim_file.specs.Grammar.{Claim, order}
 use Rattle.claim_file.specs.declared.FieldName.{FieldName}
 use Rattle.claim_file.specs.declared.FieldName.TheVariants.{Mersenne31, Gf256}
 use Rattle.claim_file.specs.declared.ReadFault.TheVariants.{NoMemory}
 use Rattle.mersenne31.specs.Mersenne31.{modulo, rem}
 use Rattle.gf256.specs.Gf256.{bytes, low}
-use Rattle.claim_check.specs.declared.CheckFault.{CheckFault}
-use Rattle.claim_check.specs.declared.CheckFault.TheVariants.{Unreadable, Refused}
+use Rattle.claim_check.specs.Outcome.{stated}
+use Rattle.claim_check.specs.declared.fault.CheckFault.{CheckFault}
+use Rattle.claim_check.specs.declared.fault.CheckFault.TheVariants.{Unreadable, Refused}
 use Rattle.claim_prove.specs.declared.Proof.{Proof}
-use Rattle.claim_prove.specs.declared.Challenges.{Challenges}
 
 -- the reply that the words of a proof stand for
 abbrev pub reply_of : {K : Type 0} → (ℕ → K) → Proof → Reply K
@@ -48,12 +48,12 @@ ProvedBy f stands P s α β v1 v2 (Err (Refused e)) = proof_refusal f s α β (r
 ProvedBy f stands P s α β v1 v2 (Err (Unreadable e)) = e ≡ NoMemory
 
 -- the same for the claim that words stand for, at the challenges that words stand for
-abbrev pub ProvesWords : {K : Type 0} → Ops K → (ℕ → K) → (ℕ → Type 0) → Claim → Challenges → Result Proof CheckFault → Type 0
+abbrev pub ProvesWords : {K : Type 0} → Ops K → (ℕ → K) → (ℕ → Type 0) → Claim → Challenges ℕ → Result Proof CheckFault → Type 0
 ProvesWords f stands P c at r =
-    ProvedBy f stands P (claimed stands c.m c.n c.matrix [] c.left c.right c.out) (stands at.alpha) (stands at.beta) (stands at.free1) (stands at.free2) r
+    ProvedBy f stands P (stated stands c) (stands at.alpha) (stands at.beta) (stands at.free1) (stands at.free2) r
 
 -- the same over the field of a name, in words below its order
-abbrev pub ProvesIn : FieldName → Claim → Challenges → Result Proof CheckFault → Type 0
+abbrev pub ProvesIn : FieldName → Claim → Challenges ℕ → Result Proof CheckFault → Type 0
 ProvesIn Mersenne31 c at r = ProvesWords modulo rem (λ w. w < order Mersenne31) c at r
 ProvesIn Gf256 c at r = ProvesWords bytes low (λ w. w < order Gf256) c at r
 
@@ -61,9 +61,9 @@ ProvesIn Gf256 c at r = ProvesWords bytes low (λ w. w < order Gf256) c at r
 abbrev pub Written : {X : Type 0} → (X → ℕ) → ℕ → Type 0
 Written {X} spelling w = (x : X) × (w ≡ spelling x)
 
--- the ends of a layout stand in order, the last at the end of the cells
-pub record Ordered (l : Layout) (cells : ℕ) : Type 0 where
-  pub r_first : l.r_end ≤ l.q_end
-  pub q_next : l.q_end ≤ l.h1_end
-  pub h1_next : l.h1_end ≤ l.h2_end
-  pub h2_last : l.h2_end ≡ cells
+-- the words of a proof are written for the values of a reply
+pub record Spells {X : Type 0} (spelling : X → ℕ) (reply : LentReply X) (p : Proof) : Type 0 where
+  pub r : vec_items p.r ≡ map spelling reply.r.now
+  pub q : vec_items p.q ≡ map spelling reply.q.now
+  pub h1 : vec_items p.h1 ≡ map spelling reply.h1.now
+  pub h2 : vec_items p.h2 ≡ map spelling reply.h2.now

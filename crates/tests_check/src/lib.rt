@@ -2,6 +2,8 @@
 
 // Examples: the direct check at the edges of its sizes, words of a field, polynomials, systems, and texts.
 #[cfg(test)]
+mod claims;
+#[cfg(test)]
 mod edges;
 #[cfg(test)]
 mod polynomials;

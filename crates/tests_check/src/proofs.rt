@@ -1,8 +1,8 @@
 // Claim files from text to proof.
 use claim_check::CheckFault;
 use claim_file::{FieldName, element, read};
-use claim_prove::{Challenges, prove_claim};
-use prover::Refusal;
+use claim_prove::prove_claim;
+use prover::{Challenges, Refusal};
 use std::test::Fail;
 
 const TWO_ROWS: &[u8; 85] =

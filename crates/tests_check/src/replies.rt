@@ -1,7 +1,8 @@
 // The honest prover on two rows and one gate: which cells it fills, and when it refuses.
+use crate::claims::claim;
 use field::Field;
 use mersenne31::{Mersenne31, P};
-use prover::{Refusal, prove};
+use prover::{Challenges, Refusal};
 
 const ROWS: [Mersenne31; 8] = [
     Mersenne31(5),
@@ -23,23 +24,16 @@ const OUT: [Mersenne31; 1] = [Mersenne31(6)];
 // What is answered for a buffer of `room` cells that all hold 9, and the cells then.
 fn reply(alpha: u32, room: usize) -> (Result<(), Refusal>, [Mersenne31; 17]) {
     let mut buffer = [Mersenne31(9); 17];
-    let (beta, free1, free2) = (Mersenne31(4), Mersenne31(P + 70), Mersenne31(80));
-    let answer = if room > 17 {
-        Ok(())
-    } else {
-        prove(
-            2,
-            1,
-            &ROWS,
-            &LEFT,
-            &RIGHT,
-            &OUT,
-            Mersenne31(alpha),
-            beta,
-            free1,
-            free2,
-            &mut buffer[0..room],
-        )
+    let at = Challenges {
+        alpha: Mersenne31(alpha),
+        beta: Mersenne31(4),
+        free1: Mersenne31(P + 70),
+        free2: Mersenne31(80),
+    };
+    let claim = claim(2, 1, &ROWS, &[], &LEFT, &RIGHT, &OUT);
+    let answer = match buffer.get_mut(0..room) {
+        Some(cells) => claim.prove(at, cells),
+        None => Ok(()),
     };
     (answer, buffer)
 }

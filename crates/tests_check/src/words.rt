@@ -1,8 +1,8 @@
 // Words of p and more stand for their remainders.
+use crate::claims::claim;
 use field::Field;
 use mersenne31::{Mersenne31, P};
 use polynomial::value_at;
-use prover::check;
 
 // 2^32 - 1 = 2p + 1
 const ONE: Mersenne31 = Mersenne31(u32::MAX);
@@ -33,11 +33,11 @@ fn claims(rt: HostRuntime) {
     let right = [Mersenne31(3)];
     let out = [Mersenne31(P + 6)];
     assert_eq!(rt;
-        check(1, 1, &matrix, &[Mersenne31(P + 31)], &left, &right, &out),
+        claim(1, 1, &matrix, &[Mersenne31(P + 31)], &left, &right, &out).check(),
         Ok(true)
     );
     assert_eq!(rt;
-        check(1, 1, &matrix, &[Mersenne31(P + 32)], &left, &right, &out),
+        claim(1, 1, &matrix, &[Mersenne31(P + 32)], &left, &right, &out).check(),
         Ok(false)
     );
 }
