@@ -4,11 +4,11 @@
 
 ghost use Rattle.std.specs.Prelude.{◌≡◌, ◌+◌, ◌*◌, ◌%◌, ◌^◌};
 
-use anyhow::anyhow;
+use anyhow::Context;
 use field::{Encoded, Field};
 use gf256::Gf256;
 use mersenne31::Mersenne31;
-use prover::prove;
+use prover::{Challenges, Layout, OwnedClaim};
 use std::alloc::{AllocError, Global};
 use std::io::{BufWriter, Write};
 
@@ -45,25 +45,32 @@ fn main(rt: HostRuntime) -> anyhow::Result<()> {
     let heap = rt.alloc();
     let mut out = BufWriter::new(heap, rt.stdout())?;
     let mut word = 1;
-    for m in 1..5usize {
-        for n in 1..6usize {
-            write_proof::<Mersenne31>(heap, &mut out, &mut word, m, n)?;
-        }
-    }
-    for m in 1..5usize {
-        for n in 1..6usize {
-            write_proof::<Gf256>(heap, &mut out, &mut word, m, n)?;
-        }
-    }
+    write_small::<Mersenne31>(heap, &mut out, &mut word)?;
+    write_small::<Gf256>(heap, &mut out, &mut word)?;
     write_proof::<Mersenne31>(heap, &mut out, &mut word, 64, 85)?;
     write_proof::<Gf256>(heap, &mut out, &mut word, 64, 42)?;
     out.flush()?;
     Ok(())
 }
 
+// Proves claims of one to four rows and one to five gates.
+fn write_small<F: Printed>(
+    heap: Global,
+    out: &mut impl Write,
+    word: &mut u32,
+) -> anyhow::Result<()> {
+    for m in 1..5usize {
+        for n in 1..6usize {
+            write_proof::<F>(heap, out, word, m, n)?;
+        }
+    }
+    Ok(())
+}
+
 // The next word of the sequence.
 fn following(word: &mut u32) -> u32
-    ensures { (result ≡ (word.old * 1103515245 + 12345) % 2 ^ 32) × (word.new ≡ result) }
+    ensures answer { result ≡ (word.old * 1103515245 + 12345) % 2 ^ 32 }
+    ensures after { word.new ≡ result }
 {
     *word = word.wrapping_mul(1_103_515_245).wrapping_add(12_345);
     *word
@@ -82,11 +89,31 @@ fn list<F: Printed>(heap: Global, word: &mut u32, n: usize) -> Result<Vec<F>, Al
 fn challenge<F: Printed>(word: &mut u32) -> F {
     for _ in 0..1000u32 {
         let x = F::of_sequence(following(word));
-        if !x.same(F::zero()) {
+        if !x.is_zero() {
             return x;
         }
     }
     F::one()
+}
+
+// The claim of the next words.
+fn next_claim<F: Printed>(
+    heap: Global,
+    word: &mut u32,
+    m: usize,
+    n: usize,
+    entries: usize,
+) -> Result<OwnedClaim<F>, AllocError> {
+    Ok(OwnedClaim {
+        m,
+        n,
+        matrix: list::<F>(heap, word, entries)?,
+        // a prover does not read it
+        vector: Vec::new(heap),
+        left: list::<F>(heap, word, n)?,
+        right: list::<F>(heap, word, n)?,
+        out: list::<F>(heap, word, n)?,
+    })
 }
 
 // Proves the next claim, and writes its polynomials, a line each.
@@ -97,58 +124,33 @@ fn write_proof<F: Printed>(
     m: usize,
     n: usize,
 ) -> anyhow::Result<()> {
-    let width = n.saturating_mul(3).saturating_add(1);
-    let area = m.saturating_mul(width);
-    let matrix = list::<F>(heap, word, area)?;
-    let left = list::<F>(heap, word, n)?;
-    let right = list::<F>(heap, word, n)?;
-    let wires = list::<F>(heap, word, n)?;
-    let alpha = challenge::<F>(word);
-    let beta = challenge::<F>(word);
-    let free1 = F::of_sequence(following(word));
-    let free2 = F::of_sequence(following(word));
-    let total = area.saturating_add(n.saturating_mul(8));
+    let layout = Layout::of::<F>(m, n)?;
+    let claim = next_claim::<F>(heap, word, m, n, layout.q_end)?;
+    let at = Challenges {
+        alpha: challenge::<F>(word),
+        beta: challenge::<F>(word),
+        free1: F::of_sequence(following(word)),
+        free2: F::of_sequence(following(word)),
+    };
     // what the cells hold before does not matter
     let mut other = 1;
-    let mut buffer = list::<F>(heap, &mut other, total)?;
-    if prove(
-        m,
-        n,
-        &matrix,
-        &left,
-        &right,
-        &wires,
-        alpha,
-        beta,
-        free1,
-        free2,
-        &mut buffer,
-    )
-    .is_err()
-    {
-        return Err(anyhow!("a claim was refused"));
-    }
+    let mut cells = list::<F>(heap, &mut other, layout.h2_end)?;
+    claim.lent().prove(at, &mut cells)?;
+    let reply = layout
+        .split(&cells)
+        .context("the cells are those of a reply")?;
     writeln!(out, "m {m} n {n}")?;
-    let h1 = area.saturating_add(n.saturating_mul(6)).saturating_add(1);
-    write_part(out, "r", &buffer, 0, width)?;
-    write_part(out, "q", &buffer, width, area)?;
-    write_part(out, "h1", &buffer, area, h1)?;
-    write_part(out, "h2", &buffer, h1, total)
+    write_part(out, "r", reply.r)?;
+    write_part(out, "q", reply.q)?;
+    write_part(out, "h1", reply.h1)?;
+    write_part(out, "h2", reply.h2)
 }
 
-// The name of a polynomial and the cells that it has in the buffer.
-fn write_part<F: Printed>(
-    out: &mut impl Write,
-    name: &str,
-    buffer: &[F],
-    from: usize,
-    to: usize,
-) -> anyhow::Result<()> {
+// The name of a polynomial and its coefficients.
+fn write_part<F: Printed>(out: &mut impl Write, name: &str, part: &[F]) -> anyhow::Result<()> {
     write!(out, "{name}")?;
-    for (i, x) in buffer.iter().enumerate() {
-        if from <= i && i < to {
-            write!(out, " {}", x.number())?;
-        }
+    for x in part {
+        write!(out, " {}", x.number())?;
     }
     writeln!(out)?;
     Ok(())

@@ -1,10 +1,10 @@
 // The commands that take arguments.
-use crate::options::{element_or, well_formed};
-use anyhow::anyhow;
-use claim_check::{CheckFault, check_fault, check_text, finding, verdict};
+use crate::options::Options;
+use anyhow::{Context, anyhow};
+use claim_check::{CheckFault, check_text, verdict};
 use claim_file::ClaimFile;
-use claim_prove::{Challenges, prove_claim};
-use prover::Finding;
+use claim_prove::prove_claim;
+use prover::{Challenges, Finding};
 use std::fs;
 
 const VERSION: &str = "0.1.0";
@@ -46,7 +46,7 @@ pub fn check(rt: &HostRuntime, path: &str) -> anyhow::Result<Ending> {
     match outcome {
         Ok(Finding::AllHold) => Ok(Ending::Done),
         Ok(found) => {
-            eprintln!(rt; "{path}: {}", finding(heap, found)?)?;
+            eprintln!(rt; "{path}: {found}")?;
             Ok(Ending::Done)
         }
         Err(_) => Ok(Ending::Refused),
@@ -55,25 +55,26 @@ pub fn check(rt: &HostRuntime, path: &str) -> anyhow::Result<Ending> {
 
 // Reads the claim in a file and prints the honest reply to it, at the challenges that the options say.
 pub fn prove(rt: &HostRuntime, path: &str, words: &[String]) -> anyhow::Result<Ending> {
-    if !well_formed(words) {
+    let Some(options) = Options::of(words) else {
         return Err(anyhow!("prove: an option is not one of those in registry --help"));
-    }
+    };
     let Some(text) = contents(rt, path)? else {
         return Ok(Ending::Refused);
     };
     match claim_file::read(rt.alloc(), &text) {
-        Ok(claim) => prove_at(rt, &claim, words),
+        Ok(claim) => prove_at(rt, &claim, options),
         Err(e) => refuse(rt, CheckFault::Unreadable(e)),
     }
 }
 
-fn prove_at(rt: &HostRuntime, claim: &ClaimFile, words: &[String]) -> anyhow::Result<Ending> {
+fn prove_at(rt: &HostRuntime, claim: &ClaimFile, options: Options<'_>) -> anyhow::Result<Ending> {
     let field = claim.field;
+    let wanted = "prove: --alpha and --beta are wanted; see registry --help";
     let at = Challenges {
-        alpha: element_or(words, "--alpha", field, None)?,
-        beta: element_or(words, "--beta", field, None)?,
-        free1: element_or(words, "--free1", field, Some(0))?,
-        free2: element_or(words, "--free2", field, Some(0))?,
+        alpha: options.element("--alpha", field)?.context(wanted)?,
+        beta: options.element("--beta", field)?.context(wanted)?,
+        free1: options.element("--free1", field)?.unwrap_or(0),
+        free2: options.element("--free2", field)?.unwrap_or(0),
     };
     match prove_claim(rt.alloc(), claim, at) {
         Ok(proof) => {
@@ -98,7 +99,7 @@ fn print_polynomial(rt: &HostRuntime, name: &str, words: &[u32]) -> anyhow::Resu
 }
 
 fn refuse(rt: &HostRuntime, fault: CheckFault) -> anyhow::Result<Ending> {
-    rt.println(check_fault(rt.alloc(), fault)?)?;
+    println!(rt; "{fault}")?;
     Ok(Ending::Refused)
 }
 

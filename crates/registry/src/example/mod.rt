@@ -9,7 +9,7 @@ mod signature;
 use crate::commands::Ending;
 use crate::example::claim::{print_statement, print_verdict, print_wires};
 use crate::example::print::print_bytes;
-use crate::example::proof::{CELLS, print_proof, prove_into, with_proof};
+use crate::example::proof::{CELLS, print_proof, proved};
 use crate::example::signature::{DIGEST, FORGED, SIGNATURE, encoded, print_system};
 use gf256::Gf256;
 
@@ -33,32 +33,31 @@ pub fn play(rt: &HostRuntime) -> anyhow::Result<Ending> {
 // The signature.
 fn genuine(rt: &HostRuntime) -> anyhow::Result<()> {
     print_bytes(rt, "signature s:", SIGNATURE)?;
-    let claim = encoded(rt.alloc(), SIGNATURE)?;
-    print_statement(rt, &claim)?;
-    print_wires(rt, &claim)?;
-    print_verdict(rt, &claim)?;
+    let encoding = encoded(rt.alloc(), SIGNATURE)?;
+    let claim = encoding.lent();
+    print_statement(rt, claim.statement)?;
+    print_wires(rt, claim.wires)?;
+    print_verdict(rt, claim)?;
     let mut cells = [Gf256(0); CELLS];
-    prove_into(rt, &claim, &mut cells)?;
-    let t = with_proof(&claim, &cells);
-    print_proof(rt, t)
+    print_proof(rt, proved(claim, &mut cells)?.reply)
 }
 
 // The same with a byte forged.
 fn forged(rt: &HostRuntime) -> anyhow::Result<()> {
     print_bytes(rt, "the same with its third byte forged:", FORGED)?;
-    let claim = encoded(rt.alloc(), FORGED)?;
+    let encoding = encoded(rt.alloc(), FORGED)?;
+    let claim = encoding.lent();
     rt.println("claim: matrix and vector are the same")?;
-    print_wires(rt, &claim)?;
-    print_verdict(rt, &claim)
+    print_wires(rt, claim.wires)?;
+    print_verdict(rt, claim)
 }
 
 // Prints the signature's polynomials in oracles of both makes, and its transcript in sessions over them; then the forged
 // signature's transcript in sessions.
 pub fn play_sessions(rt: &HostRuntime) -> anyhow::Result<Ending> {
-    let claim = encoded(rt.alloc(), SIGNATURE)?;
+    let encoding = encoded(rt.alloc(), SIGNATURE)?;
     let mut cells = [Gf256(0); CELLS];
-    prove_into(rt, &claim, &mut cells)?;
-    let t = with_proof(&claim, &cells);
+    let t = proved(encoding.lent(), &mut cells)?;
     oracles::play(rt, t)?;
     sessions::play(rt, t)?;
     sessions::refuse(rt, t)?;
@@ -70,8 +69,7 @@ pub fn play_sessions(rt: &HostRuntime) -> anyhow::Result<Ending> {
 // The forged signature's transcript in sessions.
 fn play_forged(rt: &HostRuntime) -> anyhow::Result<()> {
     print_bytes(rt, "the same with its third byte forged:", FORGED)?;
-    let claim = encoded(rt.alloc(), FORGED)?;
+    let encoding = encoded(rt.alloc(), FORGED)?;
     let mut cells = [Gf256(0); CELLS];
-    prove_into(rt, &claim, &mut cells)?;
-    sessions::play(rt, with_proof(&claim, &cells))
+    sessions::play(rt, proved(encoding.lent(), &mut cells)?)
 }

@@ -24,9 +24,5 @@ pub fn print_bytes(rt: &HostRuntime, label: &str, bytes: &[u8]) -> anyhow::Resul
 pub fn elements(heap: Global, bytes: &[u8]) -> Result<Vec<Gf256>, AllocError>
     ensures { IfOk result (λ v. v.items ≡ map (λ b. record { 0 = b }) bytes.now) }
 {
-    let mut list = Vec::new(heap);
-    for b in bytes {
-        list.push(Gf256(*b))?;
-    }
-    Ok(list)
+    bytes.iter().map(|b| Gf256(*b)).collect(heap)
 }

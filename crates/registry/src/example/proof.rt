@@ -1,97 +1,57 @@
 // The proof of the example's claim.
 use crate::example::print::print_row;
 use crate::example::signature::{DIGEST, PAIRS};
-use anyhow::anyhow;
+use anyhow::Context;
 use gf256::Gf256;
-use prover::prove;
-use quadratic::Encoding;
+use ledger::Transcript;
+use prover::{Challenges, Claim, Layout, Reply};
 
 // The entries of a row of the claim's matrix.
 pub const WIDTH: usize = 3 * PAIRS.len() + 1;
 
-// Where q ends among the cells of a proof, where h1 ends, and all cells.
-const AREA: usize = (DIGEST.len() + 2 * PAIRS.len()) * WIDTH;
+// The cells of a proof: a row for each equation and wire position, and eight for each gate.
+pub const CELLS: usize = (DIGEST.len() + 2 * PAIRS.len()) * WIDTH + 8 * PAIRS.len();
 
-const TWIST: usize = AREA + 6 * PAIRS.len() + 1;
+// The challenges of the proof; its free coefficients are zero.
+const AT: Challenges<Gf256> = Challenges {
+    alpha: Gf256(0x1d),
+    beta: Gf256(0x35),
+    free1: Gf256(0),
+    free2: Gf256(0),
+};
 
-pub const CELLS: usize = AREA + 8 * PAIRS.len();
+// The last challenge, for a session.
+const Z: Gf256 = Gf256(0x57);
 
-// The challenges of the example; the free coefficients are zero.
-pub const ALPHA: Gf256 = Gf256(0x1d);
-
-pub const BETA: Gf256 = Gf256(0x35);
-
-// The nine polynomials of a transcript, by their names.
-#[derive(Clone, Copy)]
-pub struct Transcript<'a> {
-    pub m: usize,
-    pub n: usize,
-    pub matrix: &'a [Gf256],
-    pub vector: &'a [Gf256],
-    pub left: &'a [Gf256],
-    pub right: &'a [Gf256],
-    pub out: &'a [Gf256],
-    pub r: &'a [Gf256],
-    pub q: &'a [Gf256],
-    pub h1: &'a [Gf256],
-    pub h2: &'a [Gf256],
-}
-
-// Proves a claim at the example's challenges, into the cells.
-pub fn prove_into(
-    rt: &HostRuntime,
-    claim: &Encoding<Gf256>,
-    cells: &mut [Gf256; CELLS],
-) -> anyhow::Result<()> {
-    let free = Gf256(0);
-    match prove(
-        claim.m,
-        claim.n,
-        &claim.matrix,
-        &claim.left,
-        &claim.right,
-        &claim.out,
-        ALPHA,
-        BETA,
-        free,
-        free,
-        cells,
-    ) {
-        Ok(()) => Ok(()),
-        Err(e) => Err(anyhow!(format!(in rt.alloc();
-            "the example is refused with {}",
-            e.number()
-        )?)),
-    }
-}
-
-// The claim with its proof in the cells.
-pub fn with_proof<'a>(claim: &'a Encoding<Gf256>, cells: &'a [Gf256; CELLS]) -> Transcript<'a> {
-    Transcript {
-        m: claim.m,
-        n: claim.n,
-        matrix: &claim.matrix,
-        vector: &claim.vector,
-        left: &claim.left,
-        right: &claim.right,
-        out: &claim.out,
-        r: &cells[0..WIDTH],
-        q: &cells[WIDTH..AREA],
-        h1: &cells[AREA..TWIST],
-        h2: &cells[TWIST..CELLS],
-    }
+// The transcript of a claim, with the honest reply to it, which is written into the cells.
+pub fn proved<'a>(
+    claim: Claim<'a, Gf256>,
+    cells: &'a mut [Gf256; CELLS],
+) -> anyhow::Result<Transcript<'a, Gf256>> {
+    let layout = Layout::of::<Gf256>(claim.statement.m, claim.statement.n)?;
+    claim.prove(AT, cells)?;
+    let reply = layout
+        .split(cells)
+        .context("the cells are those of a reply")?;
+    Ok(Transcript {
+        claim,
+        reply,
+        alpha: AT.alpha,
+        beta: AT.beta,
+        z: Z,
+    })
 }
 
 // Prints the four polynomials of a proof with their lengths.
-pub fn print_proof(rt: &HostRuntime, t: Transcript<'_>) -> anyhow::Result<()> {
+pub fn print_proof(rt: &HostRuntime, reply: Reply<'_, Gf256>) -> anyhow::Result<()> {
     println!(rt;
         "proof: alpha = {:02x}, beta = {:02x}, and both free coefficients are 00",
-        ALPHA.0, BETA.0
+        AT.alpha.0, AT.beta.0
     )?;
-    print_part(rt, "r", t.r)?;
-    print_part(rt, "q", t.q)?;
-    print_part(rt, "h1", t.h1)?;
-    print_part(rt, "h2", t.h2)
+    print_part(rt, "r", reply.r)?;
+    print_part(rt, "q", reply.q)?;
+    print_part(rt, "h1", reply.h1)?;
+    print_part(rt, "h2", reply.h2)
 }
 
 // A polynomial of a proof with its length, in rows as wide as the matrix.

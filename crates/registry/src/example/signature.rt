@@ -1,8 +1,8 @@
 // The example's signature: a quadratic system, a digest, and who solves it.
 use crate::example::print::elements;
-use anyhow::anyhow;
 use gf256::Gf256;
-use quadratic::{Encoding, encode};
+use prover::OwnedClaim;
+use quadratic::System;
 use std::alloc::Global;
 
 pub const VARIABLES: usize = 6;
@@ -28,35 +28,42 @@ pub const SIGNATURE: &[u8; 6] = b"\x55\x61\x27\x6c\x93\xb4";
 pub const FORGED: &[u8; 6] = b"\x55\x61\x28\x6c\x93\xb4";
 
 // The claim that a signature solves the system.
-pub fn encoded(heap: Global, signature: &[u8]) -> anyhow::Result<Encoding<Gf256>> {
-    let system = elements(heap, SYSTEM)?;
+pub fn encoded(heap: Global, signature: &[u8]) -> anyhow::Result<OwnedClaim<Gf256>> {
+    let coefficients = elements(heap, SYSTEM)?;
     let digest = elements(heap, DIGEST)?;
     let signature = elements(heap, signature)?;
-    match encode(heap, VARIABLES, &PAIRS, &system, &signature, &digest) {
-        Ok(claim) => Ok(claim),
-        Err(e) => Err(anyhow!(format!(in heap; "the example is refused with {}", e.number())?)),
-    }
+    let system = System {
+        variables: VARIABLES,
+        pairs: &PAIRS,
+        coefficients: &coefficients,
+    };
+    Ok(system.encode(heap, &signature, &digest)?)
 }
 
-// The equations, each as its constant, its linear and its quadratic part.
+// The equations, a line each.
 pub fn print_system(rt: &HostRuntime) -> anyhow::Result<()> {
-    for (i, c) in SYSTEM.iter().enumerate() {
-        let term = i % TERMS;
-        if term == 0 {
-            print!(rt; "  y{} = {c:02x}", i / TERMS + 1)?;
-        } else if term <= VARIABLES {
-            print!(rt; " + {c:02x}*s{term}")?;
-        } else {
-            let (a, b) = PAIRS[term - VARIABLES - 1];
-            print!(rt;
-                " + {c:02x}*s{}*s{}",
-                a.saturating_add(1),
-                b.saturating_add(1)
-            )?;
-        }
-        if term + 1 == TERMS {
-            rt.println("")?;
-        }
+    for (i, equation) in SYSTEM.chunks(TERMS).enumerate() {
+        print!(rt; "  y{} = ", i.saturating_add(1))?;
+        print_equation(rt, equation)?;
+        rt.println("")?;
+    }
+    Ok(())
+}
+
+// The constant of an equation, its linear and its quadratic part.
+fn print_equation(rt: &HostRuntime, equation: &[u8]) -> anyhow::Result<()> {
+    for c in equation.iter().take(1) {
+        print!(rt; "{c:02x}")?;
+    }
+    for (i, c) in equation.iter().enumerate().take(1 + VARIABLES).skip(1) {
+        print!(rt; " + {c:02x}*s{i}")?;
+    }
+    for (c, (a, b)) in equation.iter().skip(1 + VARIABLES).zip(PAIRS) {
+        print!(rt;
+            " + {c:02x}*s{}*s{}",
+            a.saturating_add(1),
+            b.saturating_add(1)
+        )?;
     }
     Ok(())
 }
