@@ -1,18 +1,18 @@
 ghost use Rattle.std.specs.Prelude.{◌≡◌, ◌^◌, ◌<◌, min};
-ghost use Rattle.oracle.specs.Shelves.{room_of};
+ghost use Rattle.oracle.specs.Store.{room_of};
 
 use field::Field;
-use oracle::{MOST_COEFFICIENTS, Oracle, OracleFault, Shelf, admit, counted_cells};
+use oracle::{MOST_COEFFICIENTS, Oracle, OracleFault, Store, admit, counted_cells};
 use polynomial::value_at;
 use std::alloc::{AllocError, Global};
 
-// An oracle that stores every coefficient, on a shelf that has as much room as they can ever need.
+// An oracle that stores every coefficient, in a store that has as much room as they can ever need.
 #[derive(Drop)]
 pub struct DenseOracle<F> {
-    shelf: Shelf<F>,
+    store: Store<F>,
     cells: u32,
     ghost small: { cells < 2 ^ 32 },
-    ghost stocked: { room_of shelf ≡ min cells 262144 },
+    ghost stocked: { room_of store ≡ min cells 262144 },
 }
 
 impl<F: Field> DenseOracle<F> {
@@ -24,8 +24,8 @@ impl<F: Field> DenseOracle<F> {
         ensures { IfOk result (λ s. dense_stand s F.Field.mean ≡ fresh cells) }
     {
         let cells = counted_cells(cells);
-        let shelf = Shelf::new(heap, cells)?;
-        Ok(DenseOracle { shelf, cells })
+        let store = Store::new(heap, cells)?;
+        Ok(DenseOracle { store, cells })
     }
 }
 
@@ -40,7 +40,7 @@ impl<F: Field> Oracle for DenseOracle<F> {
     ghost sound = { λ s. Stands.sound s F.Field.mean };
 
     fn clear(&mut self) {
-        self.shelf.clear();
+        self.store.clear();
     }
 
     fn needs(&self, p: &[F]) -> Result<u32, OracleFault> {
@@ -52,18 +52,18 @@ impl<F: Field> Oracle for DenseOracle<F> {
 
     #[tactic(auto, using(crate::specs::Stands::stored_cells))]
     fn free(&self) -> u32 {
-        self.cells - self.shelf.items().len() as u32
+        self.cells - self.store.items().len() as u32
     }
 
     fn fix(&mut self, p: &[F]) -> Result<(), OracleFault> {
-        admit(self.shelf.standing(), p.len(), p.len() as u64, self.free())?;
-        let fits = self.shelf.append(p.len(), p);
+        admit(self.store.standing(), p.len(), p.len() as u64, self.free())?;
+        let fits = self.store.append(p.len(), p);
         prove!(fits);
         Ok(())
     }
 
     fn ask(&self, k: usize, x: F) -> Result<F, OracleFault> {
-        let p = self.shelf.list(k).ok_or(OracleFault::Absent)?;
+        let p = self.store.list(k).ok_or(OracleFault::Absent)?;
         Ok(value_at(p, x))
     }
 }

@@ -2,7 +2,7 @@
 use Rattle.std.proofs.Common.{◌≡◌, ℕ, zero, suc, ◌+◌, ◌*◌, ◌<◌, ◌≤◌, true, List, [], ◌∷◌, ◌++◌, length, get_or, take, drop, sym, refl, ap, ap₂, ◌∙◌, arith, take-add, length-drop}
 use Rattle.std.proofs.lemmas.List.{append_assoc, append-nil, take-append-le, drop-append-le}
 use Rattle.std.proofs.lemmas.Bool.Decides.{nat_tests}
-use Rattle.oracle.specs.Shelves.{items_of}
+use Rattle.oracle.specs.Store.{items_of}
 use Rattle.oracle.specs.Tables.{chained, kept, part, parts}
 use Rattle.oracle.specs.declared.table.Entry.{Entry}
 

@@ -1,4 +1,4 @@
 pub mod Admitted
 pub mod Asked
 pub mod Chains
-pub mod Shelves
+pub mod StoreLemmas

@@ -1,5 +1,5 @@
 pub mod Admission
 pub mod Faults
-pub mod Shelves
+pub mod Store
 pub mod Standing
 pub mod Tables

@@ -11,13 +11,13 @@ use field::Field;
 mod admission;
 mod fault;
 mod generic;
-mod shelf;
+mod store;
 mod table;
 
 pub use admission::{admit, counted_cells};
 pub use fault::OracleFault;
 pub use generic::recall;
-pub use shelf::Shelf;
+pub use store::Store;
 
 // The most polynomials that stand, and the most coefficients that one has.
 pub const MOST_LISTS: usize = 16;

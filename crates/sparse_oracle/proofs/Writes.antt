@@ -3,9 +3,9 @@ use Rattle.std.proofs.Common.{◌≡◌, ℕ, ◌+◌, ◌<◌, ◌≤◌, true,
 use Rattle.std.proofs.lemmas.Bool.Decides.{nat_tests}
 use Rattle.std.proofs.lemmas.List.{take_more, length-take-le, length_push, append-nil, take-map}
 use Rattle.field.specs.Field.{Ops}
-use Rattle.oracle.specs.Shelves.{extended, fits, items_of, takes}
+use Rattle.oracle.specs.Store.{extended, fits, items_of, takes}
 use Rattle.oracle.specs.Tables.{Kept, kept}
-use Rattle.oracle.proofs.Shelves.{extended_push, fitting, stored_push, takes_push}
+use Rattle.oracle.proofs.StoreLemmas.{extended_push, fitting, stored_push, takes_push}
 use Rattle.sparse_oracle.specs.Spelling.{nonzero_take, terms_count, terms_push}
 use Rattle.sparse_oracle.specs.Terms.{nonzero, term_of, terms_of}
 use Rattle.sparse_oracle.specs.declared.term.Term.{Term}

@@ -1,14 +1,14 @@
 -- What a sparse oracle means.
 use Rattle.std.specs.Prelude.{ℕ, ◌+◌, min, List, []}
 use Rattle.field.specs.Field.{Ops}
-use Rattle.oracle.specs.Shelves.{lists_of}
+use Rattle.oracle.specs.Store.{lists_of}
 use Rattle.oracle.specs.Standing.{Standing, needed}
 use Rattle.sparse_oracle.specs.declared.store.SparseOracle.{SparseOracle}
 use Rattle.sparse_oracle.specs.Terms.{nonzero, spreads}
 
 -- the polynomials that stand
 abbrev pub listed : {X K : Type 0} → SparseOracle X → Ops K → (X → K) → List (List K)
-listed s f mean = spreads f mean (lists_of s.shelf)
+listed s f mean = spreads f mean (lists_of s.store)
 
 -- the polynomials, the cells in all, spare ones and those that the polynomials need, and the rule: a list needs a cell for each coefficient other than zero
 abbrev pub sparse_stand : {X K : Type 0} → SparseOracle X → Ops K → (X → K) → Standing K

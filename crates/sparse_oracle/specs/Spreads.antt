@@ -5,7 +5,7 @@ use Rattle.std.proofs.lemmas.List.{map-append}
 use Rattle.std.proofs.lemmas.List.Folds.{list_all-append}
 use Rattle.std.proofs.lemmas.Option.{none-some, same_Some}
 use Rattle.field.specs.Field.{Ops, Laws}
-use Rattle.oracle.specs.Shelves.{items_of}
+use Rattle.oracle.specs.Store.{items_of}
 use Rattle.oracle.specs.Standing.{needed}
 use Rattle.oracle.specs.Tables.{Kept}
 use Rattle.sparse_oracle.specs.Terms.{Spells, all_climb, climbs, coefficients_of, nonzero, spread, spreads}

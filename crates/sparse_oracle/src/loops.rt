@@ -1,12 +1,12 @@
 ghost use Rattle.std.specs.Prelude.{◌≡◌, ◌≤◌, true, List, [], ◌∷◌, ◌++◌, map, length};
 ghost use Rattle.algebra.specs.Polynomials.{value};
-ghost use Rattle.oracle.specs.Shelves.{fits, lists_of, room_of};
+ghost use Rattle.oracle.specs.Store.{fits, lists_of, room_of};
 ghost use Rattle.oracle.specs.Tables.{kept};
 ghost use Rattle.sparse_oracle.specs.Terms.{Spells, coefficients_of, nonzero, terms_of};
 
 use crate::term::Term;
 use field::Field;
-use oracle::Shelf;
+use oracle::Store;
 use polynomial::power;
 
 // How many values of a list are not zero.
@@ -29,18 +29,18 @@ pub(crate) fn count_terms<F: Field>(terms: &[Term<F>]) -> usize
 }
 
 // Puts up the terms of `p`, one for each coefficient other than zero.
-pub(crate) fn write_terms<F: Field>(shelf: &mut Shelf<Term<F>>, p: &[F])
+pub(crate) fn write_terms<F: Field>(store: &mut Store<Term<F>>, p: &[F])
     requires short { length p.now ≤ 16384 }
-    requires room { fits (lists_of shelf.old) (room_of shelf.old) (nonzero F.Field.ops (map F.Field.mean p.now)) ≡ true }
-    ensures lists { lists_of shelf.new ≡ lists_of shelf.old ++ kept (length p.now) (terms_of F.Field.ops F.Field.mean 0 p.now) ∷ [] }
-    ensures same_room { room_of shelf.new ≡ room_of shelf.old }
+    requires room { fits (lists_of store.old) (room_of store.old) (nonzero F.Field.ops (map F.Field.mean p.now)) ≡ true }
+    ensures lists { lists_of store.new ≡ lists_of store.old ++ kept (length p.now) (terms_of F.Field.ops F.Field.mean 0 p.now) ∷ [] }
+    ensures same_room { room_of store.new ≡ room_of store.old }
 {
     let no_terms = [];
-    let begun = shelf.append(p.len(), &no_terms);
+    let begun = store.append(p.len(), &no_terms);
     prove!(begun);
     for (i, &coefficient) in p.iter().enumerate() {
         if !coefficient.is_zero() {
-            let pushed = shelf.push(Term::new(i, coefficient));
+            let pushed = store.push(Term::new(i, coefficient));
             prove!(pushed);
         }
     }

@@ -1,21 +1,21 @@
 ghost use Rattle.std.specs.Prelude.{◌≡◌, ◌+◌, ◌^◌, ◌<◌, ◌≤◌, min, true};
-ghost use Rattle.oracle.specs.Shelves.{lists_of, room_of, stored_of};
+ghost use Rattle.oracle.specs.Store.{lists_of, room_of, stored_of};
 ghost use Rattle.sparse_oracle.specs.Terms.{all_climb};
 
 use crate::loops::{count_terms, count_values, value_of, write_terms};
 use crate::term::Term;
 use field::Field;
-use oracle::{MOST_COEFFICIENTS, Oracle, OracleFault, Shelf, admit, counted_cells};
+use oracle::{MOST_COEFFICIENTS, Oracle, OracleFault, Store, admit, counted_cells};
 use std::alloc::{AllocError, Global};
 
-// An oracle that stores the coefficients other than zero, on a shelf that has as much room as they can ever need.
+// An oracle that stores the coefficients other than zero, in a store that has as much room as they can ever need.
 #[derive(Drop)]
 pub struct SparseOracle<F> {
-    shelf: Shelf<Term<F>>,
+    store: Store<Term<F>>,
     spare: u32,
-    ghost small: { spare + stored_of shelf < 2 ^ 32 },
-    ghost stocked: { min (spare + stored_of shelf) 262144 ≤ room_of shelf },
-    ghost climb: { all_climb (lists_of shelf) ≡ true },
+    ghost small: { spare + stored_of store < 2 ^ 32 },
+    ghost stocked: { min (spare + stored_of store) 262144 ≤ room_of store },
+    ghost climb: { all_climb (lists_of store) ≡ true },
 }
 
 impl<F: Field> SparseOracle<F> {
@@ -27,8 +27,8 @@ impl<F: Field> SparseOracle<F> {
         ensures { IfOk result (λ s. sparse_stand s F.Field.ops F.Field.mean ≡ fresh F.Field.ops cells) }
     {
         let spare = counted_cells(cells);
-        let shelf = Shelf::new(heap, spare)?;
-        Ok(SparseOracle { shelf, spare })
+        let store = Store::new(heap, spare)?;
+        Ok(SparseOracle { store, spare })
     }
 }
 
@@ -45,8 +45,8 @@ impl<F: Field> Oracle for SparseOracle<F> {
     // The cells that the polynomials needed are counted: an invariant of the struct cannot speak of the field's zero, so it
     // does not say that none of the terms is zero.
     fn clear(&mut self) {
-        self.spare += count_terms(self.shelf.items()) as u32;
-        self.shelf.clear();
+        self.spare += count_terms(self.store.items()) as u32;
+        self.store.clear();
     }
 
     fn needs(&self, p: &[F]) -> Result<u32, OracleFault> {
@@ -62,14 +62,14 @@ impl<F: Field> Oracle for SparseOracle<F> {
 
     fn fix(&mut self, p: &[F]) -> Result<(), OracleFault> {
         let needed = count_values(p);
-        admit(self.shelf.standing(), p.len(), needed as u64, self.free())?;
-        write_terms(&mut self.shelf, p);
+        admit(self.store.standing(), p.len(), needed as u64, self.free())?;
+        write_terms(&mut self.store, p);
         self.spare -= needed as u32;
         Ok(())
     }
 
     fn ask(&self, k: usize, x: F) -> Result<F, OracleFault> {
-        let terms = self.shelf.list(k).ok_or(OracleFault::Absent)?;
+        let terms = self.store.list(k).ok_or(OracleFault::Absent)?;
         Ok(value_of(terms, x))
     }
 }

@@ -1,5 +1,5 @@
 use Rattle.std.proofs.Common.{ℕ, ◌+◌, ◌-◌, List, [], ◌∷◌, ◌++◌, map, sym, ap, ◌∙◌, arith}
-use Rattle.oracle.specs.Shelves.{lists_of}
+use Rattle.oracle.specs.Store.{lists_of}
 use Rattle.oracle.specs.Standing.{Standing, after_by, appended, needed}
 use Rattle.sparse_oracle.specs.Sparse.{listed, sparse_stand}
 use Rattle.sparse_oracle.specs.Stands.{cells_kept, climb_more, listed_more, roomy, stored_more, unrefused}
@@ -19,7 +19,7 @@ invariant_of-self g c =
     let s = c.args.self.now in
     let p = c.args.p.now in
     let r = roomy s f.ops f.mean p (unrefused s f.ops f.mean p _ _ _ c.standing.ensures c.count_values-needed.ensures.means c.free.ensures c.in_ok-admit.ensures) in
-    let ps = lists_of c.write_terms.new.shelf in
+    let ps = lists_of c.write_terms.new.store in
     let more = stored_more s f.ops f.mean p ps c.write_terms.ensures.lists in
     record {
       small = omega (arith, s.small, r.spare, more, c.count_values-needed.ensures.means);
@@ -38,7 +38,7 @@ returns-clause-after g c =
     let none = unrefused s f.ops f.mean p _ _ _ c.standing.ensures c.count_values-needed.ensures.means c.free.ensures c.in_ok-admit.ensures in
     let r = roomy s f.ops f.mean p none in
     let more = listed s f.ops f.mean ++ (map f.mean p ∷ []) in
-    let kept = cells_kept s f.ops f.mean p (lists_of c.write_terms.new.shelf) c.write_terms.ensures.lists r.spare in
-    ap (λ ls. st ls (s.spare - c.count_values-needed.result + needed rule ls)) (listed_more s f.ops f.mean p (lists_of c.write_terms.new.shelf) c.write_terms.ensures.lists g.met.F.Field.lawful)
+    let kept = cells_kept s f.ops f.mean p (lists_of c.write_terms.new.store) c.write_terms.ensures.lists r.spare in
+    ap (λ ls. st ls (s.spare - c.count_values-needed.result + needed rule ls)) (listed_more s f.ops f.mean p (lists_of c.write_terms.new.store) c.write_terms.ensures.lists g.met.F.Field.lawful)
     ∙ ap (st more) (ap (λ n. s.spare - n + needed rule more) c.count_values-needed.ensures.means ∙ kept)
     ∙ sym (ap (λ o. after_by o stand (appended stand (map f.mean p))) none)

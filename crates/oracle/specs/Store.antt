@@ -1,15 +1,15 @@
--- What stands on a shelf, and what fits on it.
+-- What stands in a store, and what fits into it.
 use Rattle.std.specs.Prelude.{ℕ, ◌+◌, ◌-◌, Bool, ◌&&◌, List, [], ◌∷◌, ◌++◌, length, take, nat_le, nat_lt, slice_index_or, slice_set, vec_items}
 use Rattle.std.specs.List.{flat_map}
 use Rattle.oracle.specs.Tables.{Kept, kept, parts}
-use Rattle.oracle.specs.declared.shelf.Shelf.{Shelf}
+use Rattle.oracle.specs.declared.store.Store.{Store}
 
 -- the lists that stand, in the order in which they were put up
-abbrev pub lists_of : {X : Type 0} → Shelf X → List (Kept X)
+abbrev pub lists_of : {X : Type 0} → Store X → List (Kept X)
 lists_of s = parts (vec_items s.storage) (take s.table.len s.table.entries)
 
 -- how many items it has room for in all
-abbrev pub room_of : {X : Type 0} → Shelf X → ℕ
+abbrev pub room_of : {X : Type 0} → Store X → ℕ
 room_of s = s.room
 
 -- the items of all lists, one list behind the other
@@ -17,7 +17,7 @@ abbrev pub items_of : {X : Type 0} → List (Kept X) → List X
 items_of ps = flat_map (λ p. p.items) ps
 
 -- how many they are
-abbrev pub stored_of : {X : Type 0} → Shelf X → ℕ
+abbrev pub stored_of : {X : Type 0} → Store X → ℕ
 stored_of s = length (items_of (lists_of s))
 
 -- whether a list of n items fits: fewer than 16 lists stand, it has at most 16,384 items, and they have room beside the others

@@ -11,7 +11,7 @@ const MOST_ITEMS: usize = MOST_LISTS * MOST_COEFFICIENTS;
 // What an oracle stores: at most sixteen polynomials, each as a list of at most 16,384 items. The lists lie one behind
 // the other in one storage, which is made once and never grows.
 #[derive(Drop)]
-pub struct Shelf<T> {
+pub struct Store<T> {
     storage: Vec<T>,
     table: Table,
     room: usize,
@@ -22,20 +22,20 @@ pub struct Shelf<T> {
     ghost chain: { chained 0 (take table.len table.entries) (vec_len storage) ≡ true },
 }
 
-impl<T: Copy> Shelf<T> {
+impl<T: Copy> Store<T> {
     ghost use Rattle.std.specs.Prelude.{◌≡◌, ◌++◌, ◌∷◌, [], length, min, if◌then◌else◌, IfOk, option_map, slice_get};
     ghost use Rattle.std.specs.Option.{option_copied};
-    ghost use Rattle.oracle.specs.Shelves.{lists_of, room_of, items_of, fits, takes, extended};
+    ghost use Rattle.oracle.specs.Store.{lists_of, room_of, items_of, fits, takes, extended};
     ghost use Rattle.oracle.specs.Tables.{kept};
 
-    // An empty shelf with room for so many items, but for no more than can ever stand.
-    pub fn new(heap: Global, cells: u32) -> Result<Shelf<T>, AllocError>
+    // An empty store with room for so many items, but for no more than can ever stand.
+    pub fn new(heap: Global, cells: u32) -> Result<Store<T>, AllocError>
         ensures empty { IfOk result (λ s. lists_of s ≡ []) }
         ensures room { IfOk result (λ s. room_of s ≡ min cells 262144) }
     {
         let room = (cells as usize).min(MOST_ITEMS);
         let storage = Vec::with_capacity(heap, room)?;
-        Ok(Shelf {
+        Ok(Store {
             storage,
             table: Table::empty(),
             room,
@@ -59,7 +59,7 @@ impl<T: Copy> Shelf<T> {
     }
 
     // The items of list k.
-    #[tactic(auto, using(crate::proofs::Shelves::entry_within))]
+    #[tactic(auto, using(crate::proofs::StoreLemmas::entry_within))]
     pub fn list(&self, k: usize) -> Option<&[T]>
         ensures { option_copied result ≡ option_map (λ p. p.items) (slice_get (lists_of self.now) k) }
     {
@@ -79,7 +79,7 @@ impl<T: Copy> Shelf<T> {
     }
 
     // Puts up a list that stands for so many coefficients, and answers whether it fits. If not, it changes nothing.
-    #[tactic(auto, using(crate::proofs::Shelves::fits_is))]
+    #[tactic(auto, using(crate::proofs::StoreLemmas::fits_is))]
     pub fn append(&mut self, long: usize, items: &[T]) -> bool
         ensures answer { result ≡ fits (lists_of self.old) (room_of self.old) (length items.now) }
         ensures lists { lists_of self.new ≡ (if result then lists_of self.old ++ kept long items.now ∷ [] else lists_of self.old) }

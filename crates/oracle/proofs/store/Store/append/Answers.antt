@@ -1,8 +1,8 @@
 use Rattle.std.proofs.Common.{◌≡◌, ◌+◌, ◌++◌, length, vec_items, vec_len, ap, ◌∙◌, arith, length-set}
 use Rattle.std.proofs.lemmas.Bool.Decides.{nat_tests}
 use Rattle.oracle.specs.Tables.{entry_of}
-use Rattle.oracle.proofs.Shelves.{fits_is, chain_more, lists_more}
-use Rattle.oracle.proofs.shelf.Shelf.append.Goals as goal
+use Rattle.oracle.proofs.StoreLemmas.{fits_is, chain_more, lists_more}
+use Rattle.oracle.proofs.store.Store.append.Goals as goal
 
 pub invariant_of-self : goal.invariant_of-self
 invariant_of-self g c =

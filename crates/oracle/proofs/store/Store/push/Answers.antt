@@ -1,9 +1,9 @@
 use Rattle.std.proofs.Common.{◌≡◌, ◌+◌, arith, length-set}
 use Rattle.std.proofs.lemmas.Bool.Decides.{nat_tests}
 use Rattle.oracle.specs.Tables.{entry_of}
-use Rattle.oracle.proofs.Shelves.{takes_is, chain_grown, lists_grown}
-use Rattle.oracle.proofs.shelf.Shelf.push.Goals as goal
-use Rattle.oracle.proofs.shelf.Shelf.push.Goals.{then-count-ge-MOST_COEFFICIENTS-via-then-count-ge-MOST_COEFFICIENTS, then-count-ge-MOST_COEFFICIENTS-via-else-count-ge-MOST_COEFFICIENTS+then-len-self}
+use Rattle.oracle.proofs.StoreLemmas.{takes_is, chain_grown, lists_grown}
+use Rattle.oracle.proofs.store.Store.push.Goals as goal
+use Rattle.oracle.proofs.store.Store.push.Goals.{then-count-ge-MOST_COEFFICIENTS-via-then-count-ge-MOST_COEFFICIENTS, then-count-ge-MOST_COEFFICIENTS-via-else-count-ge-MOST_COEFFICIENTS+then-len-self}
 
 pub returns-then-count-ge-MOST_COEFFICIENTS-clause-answer : goal.returns-then-count-ge-MOST_COEFFICIENTS-clause-answer
 returns-then-count-ge-MOST_COEFFICIENTS-clause-answer g c =

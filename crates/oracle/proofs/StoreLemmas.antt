@@ -1,12 +1,12 @@
--- What always holds of a shelf.
+-- What always holds of a store.
 use Rattle.std.proofs.Common.{◌≡◌, ℕ, ◌+◌, ◌-◌, ◌*◌, ◌<◌, ◌≤◌, true, ◌&&◌, List, [], ◌∷◌, ◌++◌, length, get_or, take, drop, set, Some, option_map, slice_get, nat_le, nat_lt, sym, ap, ap₂, subst, ◌∙◌, arith, vec_items, vec_len, lt-ltb, length-append, length-drop}
 use Rattle.std.proofs.lemmas.List.{length-map, length-take-le, length_push, map_push, get_or-take, get_or_at, set_at, take_all, take_more, take_more_set, drop-append-le, drop_at, append-nil}
 use Rattle.std.proofs.lemmas.Bool.Decides.{nat_tests}
 use Rattle.std.proofs.lemmas.List.Concat.{flat_map-append}
 use Rattle.std.proofs.lemmas.Option.{slice_get-map, slice_get-get_or}
-use Rattle.oracle.specs.Shelves.{items_of, lists_of, room_of, fits, last_of, takes, extended}
+use Rattle.oracle.specs.Store.{items_of, lists_of, room_of, fits, last_of, takes, extended}
 use Rattle.oracle.specs.Tables.{Kept, kept, entry_of, chained, part, parts}
-use Rattle.oracle.specs.declared.shelf.Shelf.{Shelf}
+use Rattle.oracle.specs.declared.store.Store.{Store}
 use Rattle.oracle.specs.declared.table.Entry.{Entry}
 use Rattle.oracle.proofs.Chains.{Last, chain_at, chain_last, chain_most, chain_push, parts_items, parts_kept}
 
@@ -43,7 +43,7 @@ pub record Fitting {X : Type 0} (ps : List (Kept X)) (room n : ℕ) : Type 0 whe
 pub fitting : {X : Type 0} (ps : List (Kept X)) (room n : ℕ) → fits ps room n ≡ true → Fitting ps room n
 fitting ps room n h = record { few = grind (arith, nat_tests, h); short = grind (arith, nat_tests, h); within = grind (arith, nat_tests, h) }
 
-module _ {X : Type 0} (s : Shelf X) where
+module _ {X : Type 0} (s : Store X) where
   entries_long : length (take s.table.len s.table.entries) ≡ s.table.len
   entries_long = length-take-le s.table.len s.table.entries (omega (arith, s.wide, s.few))
 

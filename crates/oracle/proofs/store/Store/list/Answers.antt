@@ -1,7 +1,7 @@
 use Rattle.std.proofs.Common.{◌≡◌, ◌+◌, ◌-◌, option_map, get_or, sym, ap, arith}
 use Rattle.oracle.specs.Tables.{entry_of}
-use Rattle.oracle.proofs.Shelves.{list_at}
-use Rattle.oracle.proofs.shelf.Shelf.list.Goals as goal
+use Rattle.oracle.proofs.StoreLemmas.{list_at}
+use Rattle.oracle.proofs.store.Store.list.Goals as goal
 
 pub returns : goal.returns
 returns g c =
