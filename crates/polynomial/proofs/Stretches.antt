@@ -39,7 +39,7 @@ module _ {K : Type 0} (f : Ops K) (laws : Laws f) where
       (λ t l. middle_met f laws d a b k (d - k + t) (k - d + t) (omega arith) (omega arith))
 
   -- the inner product by its coefficients
-  inner_sum : (a b : List K) (n : ℕ) → min (length a) (length b) ≤ n → inner f a b ≡ sum f n (λ t. f.mul (coeff f a t) (coeff f b t))
+  pub inner_sum : (a b : List K) (n : ℕ) → min (length a) (length b) ≤ n → inner f a b ≡ sum f n (λ t. f.mul (coeff f a t) (coeff f b t))
   inner_sum [] b n h = sym (sum_nil f laws n (λ t. f.mul (coeff f [] t) (coeff f b t)) (λ t l. nil_mul f laws (coeff f b t)))
   inner_sum (x ∷ a) [] n h = sym (sum_nil f laws n (λ t. f.mul (coeff f (x ∷ a) t) (coeff f [] t)) (λ t l. mul_nil f laws (coeff f (x ∷ a) t)))
   inner_sum (x ∷ a) (y ∷ b) zero h = absurd (omega arith)

@@ -6,7 +6,7 @@ mod twist;
 mod value;
 
 pub use division::{carry, divide, write_quotient};
-pub use middle::middle_product;
+pub use middle::{inner_product, middle_product};
 pub use twist::{power, solve_twist};
 pub use value::{coefficient, value_at};
 

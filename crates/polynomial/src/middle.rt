@@ -39,7 +39,7 @@ fn fill_middle<F: Field>(a: &[F], b: &[F], d: usize, out: &mut [F])
 }
 
 // The sum of `a[i]·b[i]`, up to the end of the shorter.
-fn inner_product<F: Field>(a: &[F], b: &[F]) -> F
+pub fn inner_product<F: Field>(a: &[F], b: &[F]) -> F
     ensures means { F.Field.mean result ≡ inner F.Field.ops (map F.Field.mean a.now) (map F.Field.mean b.now) }
     ensures tidy { F.Field.reduced result }
 {

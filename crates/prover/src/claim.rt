@@ -5,7 +5,6 @@ ghost use Rattle.prover.specs.Findings.{Audited, Checked};
 ghost use Rattle.prover.specs.Replies.{Proved, proof_refusal};
 
 use crate::full::FullClaim;
-use crate::layout::reply_cells;
 use crate::refusal::Refusal;
 use crate::relation::Finding;
 use field::Field;
@@ -82,7 +81,7 @@ impl<'a, F: Field> Claim<'a, F> {
         if at.alpha.is_zero() || at.beta.is_zero() {
             return Err(Refusal::ZeroChallenge);
         }
-        let cells = reply_cells(self.statement.m, self.statement.n);
+        let cells = full.reply_cells();
         if buffer.len() < cells {
             return Err(Refusal::ShortBuffer);
         }

@@ -127,6 +127,14 @@ impl<'a, F: Field> FullClaim<'a, F> {
         }
     }
 
+    // The cells of its reply.
+    pub(crate) fn reply_cells(&self) -> usize
+        ensures { result ≡ reply_cells self.now.claim.statement.m self.now.claim.statement.n }
+    {
+        let Statement { m, n, .. } = self.claim.statement;
+        m * (3 * n + 1) + 8 * n
+    }
+
     // Writes the four polynomials of the honest reply, one behind the other.
     pub(crate) fn write_reply(&self, at: Challenges<F>, cells: &mut [F])
         requires { length cells.old ≡ reply_cells self.now.claim.statement.m self.now.claim.statement.n }

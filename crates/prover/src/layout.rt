@@ -1,7 +1,6 @@
-ghost use Rattle.std.specs.Prelude.{◌≡◌, ◌≤◌, ◌↔◌, true, false, length, Ok, Err, IsSome, IfSome};
+ghost use Rattle.std.specs.Prelude.{◌≡◌, ◌↔◌, true, false, length, Ok, Err, IsSome, IfSome};
 ghost use Rattle.prover.specs.Claims.{in_range as sizes_fit};
 ghost use Rattle.prover.specs.Layouts.{layout_of, InOrder, SplitAt};
-ghost use Rattle.prover.specs.Replies.{reply_cells};
 ghost use Rattle.prover.specs.declared.refusal.Refusal.TheVariants.{BadSize};
 
 use crate::refusal::{Refusal, in_range};
@@ -33,7 +32,7 @@ impl Layout {
             r_end: width,
             q_end: rows,
             h1_end: rows + (6 * n + 1),
-            h2_end: reply_cells(m, n),
+            h2_end: rows + 8 * n,
         })
     }
 
@@ -58,13 +57,4 @@ pub struct Reply<'a, F> {
     pub q: &'a [F],
     pub h1: &'a [F],
     pub h2: &'a [F],
-}
-
-// The cells of a reply.
-pub(crate) fn reply_cells(m: usize, n: usize) -> usize
-    requires few_rows { m ≤ 64 }
-    requires few_gates { n ≤ 85 }
-    ensures { result ≡ reply_cells m n }
-{
-    m * (3 * n + 1) + 8 * n
 }

@@ -3,6 +3,7 @@ use Rattle.std.specs.Prelude.{◌≡◌, ℕ, ◌+◌, ◌*◌, ◌<◌, List, m
 use Rattle.field.specs.Field.{Ops}
 use Rattle.algebra.specs.Sums.{sum}
 use Rattle.algebra.specs.Polynomials.{coeff}
+use Rattle.quadratic.specs.declared.system.System.{System as LentSystem}
 
 -- v variables, n pairs of variables to multiply, and for each equation a row of 1 + v + n coefficients
 pub record System (K : Type 0) : Type 0 where
@@ -17,6 +18,10 @@ system_of mean variables pairs coefficients = record {
   pairs = pairs;
   coefficients = map mean coefficients;
 }
+
+-- the same of a system whose lists are lent
+abbrev pub system_in : {X K : Type 0} → (X → K) → LentSystem X → System K
+system_in mean s = system_of mean s.variables s.pairs.now s.coefficients.now
 
 -- n, the number of pairs
 abbrev pub gates : {K : Type 0} → System K → ℕ

@@ -1,6 +1,6 @@
 ghost use Rattle.std.specs.Prelude.{◌≡◌, ◌+◌, ◌*◌, ◌<◌, map, length, IfOk};
 ghost use Rattle.algebra.specs.Polynomials.{monomial};
-ghost use Rattle.quadratic.specs.Systems.{system_of, term};
+ghost use Rattle.quadratic.specs.Systems.{system_in, term};
 ghost use Rattle.quadratic.specs.Sizes.{Ready, Shaped};
 ghost use Rattle.quadratic.specs.Encodings.{cell as matrix_cell, equation_cell, tie_cell, matrix_of};
 
@@ -29,7 +29,7 @@ pub(crate) struct Matrix<'a, F> {
 impl<'a, F: Field> Matrix<'a, F> {
     // The cells, row by row.
     pub(crate) fn cells(&self, heap: Global) -> Result<Vec<F>, AllocError>
-        ensures { IfOk result (λ v. map F.Field.mean v.items ≡ matrix_of F.Field.ops (system_of F.Field.mean self.now.system.variables self.now.system.pairs.now self.now.system.coefficients.now) self.now.equations) }
+        ensures { IfOk result (λ v. map F.Field.mean v.items ≡ matrix_of F.Field.ops (system_in F.Field.mean self.now.system) self.now.equations) }
     {
         let width = 3 * self.system.pairs.len() + 1;
         (0..self.shape.cells)
@@ -41,7 +41,7 @@ impl<'a, F: Field> Matrix<'a, F> {
     fn cell(&self, i: usize, j: usize) -> F
         requires row { i < self.now.equations + 2 * length self.now.system.pairs.now }
         requires column { j < 3 * length self.now.system.pairs.now + 1 }
-        ensures { F.Field.mean result ≡ matrix_cell F.Field.ops (system_of F.Field.mean self.now.system.variables self.now.system.pairs.now self.now.system.coefficients.now) self.now.equations i j }
+        ensures { F.Field.mean result ≡ matrix_cell F.Field.ops (system_in F.Field.mean self.now.system) self.now.equations i j }
     {
         if i < self.equations {
             self.equation_cell(i, j)
@@ -55,7 +55,7 @@ impl<'a, F: Field> Matrix<'a, F> {
     fn equation_cell(&self, k: usize, j: usize) -> F
         requires row { k < self.now.equations }
         requires column { j < 3 * length self.now.system.pairs.now + 1 }
-        ensures { F.Field.mean result ≡ equation_cell F.Field.ops (system_of F.Field.mean self.now.system.variables self.now.system.pairs.now self.now.system.coefficients.now) k j }
+        ensures { F.Field.mean result ≡ equation_cell F.Field.ops (system_in F.Field.mean self.now.system) k j }
     {
         let pairs = self.system.pairs;
         let positions = 2 * pairs.len();
@@ -89,7 +89,7 @@ impl<'a, F: Field> Matrix<'a, F> {
     fn term(&self, k: usize, j: usize) -> F
         requires row { k < self.now.equations }
         requires column { j < 1 + self.now.system.variables + length self.now.system.pairs.now }
-        ensures { F.Field.mean result ≡ term F.Field.ops (system_of F.Field.mean self.now.system.variables self.now.system.pairs.now self.now.system.coefficients.now) k j }
+        ensures { F.Field.mean result ≡ term F.Field.ops (system_in F.Field.mean self.now.system) k j }
     {
         let terms = 1 + self.system.variables + self.system.pairs.len();
         self.system.coefficients[k * terms + j]

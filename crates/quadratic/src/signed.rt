@@ -9,6 +9,7 @@ ghost use Rattle.quadratic.specs.Encodings.{carried};
 use crate::position::first_stray;
 use crate::system::System;
 use field::Field;
+use polynomial::inner_product;
 use std::alloc::{AllocError, Global};
 
 // A system with a signature that has an entry for each variable, where every pair names two variables.
@@ -41,11 +42,7 @@ impl<'a, F: Field> Signed<'a, F> {
         ensures { F.Field.mean result ≡ sum F.Field.ops self.now.system.variables
             (λ i. F.Field.ops.mul (coeff F.Field.ops (map F.Field.mean weights.now) i) (coeff F.Field.ops (map F.Field.mean self.now.signature.now) i)) }
     {
-        let mut sum = F::zero();
-        for (weight, value) in weights.iter().zip(self.signature) {
-            sum = sum.plus(weight.times(*value));
-        }
-        sum
+        inner_product(weights, self.signature)
     }
 
     // The sum of the weights times the products of the pairs.

@@ -1,6 +1,6 @@
 ghost use Rattle.std.specs.Prelude.{◌≡◌, ◌+◌, ◌*◌, ◌%◌, ◌^◌, ◌<◌, ◌≤◌, ◌↔◌, map, length, slice_range, Some, None, IsTrue, IfSome, IfNone, OnSome, OnOk, IfErr};
 ghost use Rattle.std.specs.Option.{SomeIff};
-ghost use Rattle.quadratic.specs.Systems.{system_of, right_side};
+ghost use Rattle.quadratic.specs.Systems.{system_in, right_side};
 ghost use Rattle.quadratic.specs.Sizes.{Named, Exists, Shaped};
 ghost use Rattle.quadratic.specs.Answers.{Encodes};
 ghost use Rattle.quadratic.specs.Refusals.{told, refusal};
@@ -30,7 +30,7 @@ impl<'a, F: Field> System<'a, F> {
         ensures { elim result [
           | None ↦ (Exists self.entry.variables self.entry.pairs.now (length self.entry.coefficients.now) (length signature.now) k → ⊥)
           | Some x ↦ Exists self.entry.variables self.entry.pairs.now (length self.entry.coefficients.now) (length signature.now) k
-              × (F.Field.mean x ≡ right_side F.Field.ops (system_of F.Field.mean self.entry.variables self.entry.pairs.now self.entry.coefficients.now) (map F.Field.mean signature.now) k)
+              × (F.Field.mean x ≡ right_side F.Field.ops (system_in F.Field.mean self.entry) (map F.Field.mean signature.now) k)
               × F.Field.reduced x
         ] }
     {
