@@ -28,22 +28,27 @@ pub fn hold<O: Oracle>(oracle: &O, n: u32, alpha: O::Elem, beta: O::Elem, z: O::
     let matrix = value_of(oracle, Polynomial::Matrix, z);
     let quotient = value_of(oracle, Polynomial::Quotient, z);
     let remainder = value_of(oracle, Polynomial::Remainder, z);
+    let h1 = value_of(oracle, Polynomial::H1, z);
+    let h1_next = value_of(oracle, Polynomial::H1, next);
     let left = value_of(oracle, Polynomial::Left, y);
     let right = value_of(oracle, Polynomial::Right, y);
     let out = value_of(oracle, Polynomial::Out, y);
     let vector = value_of(oracle, Polynomial::Vector, alpha);
+    let h2 = value_of(oracle, Polynomial::H2, z);
+    let h2_next = value_of(oracle, Polynomial::H2, next);
+    let scaled = value_of(oracle, Polynomial::Left, beta.times(z));
     let gates = value_of(oracle, Polynomial::Out, beta);
     let rows = Values {
         ya: remainder,
         yb: wires_at(n, y, left, right, out),
-        yh: value_of(oracle, Polynomial::H1, z),
-        yh2: value_of(oracle, Polynomial::H1, next),
+        yh: h1,
+        yh2: h1_next,
     };
     let products = Values {
-        ya: value_of(oracle, Polynomial::Left, beta.times(z)),
+        ya: scaled,
         yb: right,
-        yh: value_of(oracle, Polynomial::H2, z),
-        yh2: value_of(oracle, Polynomial::H2, next),
+        yh: h2,
+        yh2: h2_next,
     };
     let d = n as usize;
     let first = divides(n, alpha, z, matrix, quotient, remainder);
@@ -81,8 +86,5 @@ fn wires_at<F: Field>(n: u32, y: F, left: F, right: F, out: F) -> F
 fn settled<F: Field>(d: usize, c: F, z: F, at: Values<F>) -> bool
     ensures { result ≡ settled_test F.Field.ops d (F.Field.mean c) (F.Field.mean z) (F.Field.mean at.ya) (F.Field.mean at.yb) (F.Field.mean at.yh) (F.Field.mean at.yh2) }
 {
-    match InnerProductClaim::state(d, c, z) {
-        Ok(claim) => claim.settle(at),
-        Err(_) => false,
-    }
+    InnerProductClaim::state(d, c, z).is_ok_and(|claim| claim.settle(at))
 }

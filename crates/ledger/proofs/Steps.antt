@@ -194,6 +194,3 @@ module _ {K : Type 0} (f : Ops K) where
         ap (λ s. ran f s cs) (step_at l c k r)
         ∙ ran_at (enter f st l c) cs (k + o) (formed_enter f laws st l c r)
         ∙ ap (λ j. state_at f st (reading_of (ledger_from f st (enter f st l c) cs)) j) e
-
-    pub fresh_at : fresh f st ≡ state_at f st (reading_of []) 0
-    fresh_at = refl

@@ -1,13 +1,11 @@
 -- The calls of a whole transcript.
-use Rattle.std.specs.Prelude.{List, [], ◌∷◌, map}
-use Rattle.ledger.specs.Ledger.{Move, opens, puts, draws, judges}
+use Rattle.std.specs.Prelude.{List, [], ◌∷◌}
+use Rattle.ledger.specs.declared.call.Call.{Call}
+use Rattle.ledger.specs.declared.call.Call.TheVariants.{Open, Put, Draw, Judge}
 use Rattle.ledger.specs.declared.transcript.Transcript.{Transcript}
 
 -- the statement; wl, wr, wo; α and β; r, q, h1, h2; z; and the test
-abbrev pub moves_of : {E K : Type 0} → (E → K) → Transcript E → List (Move K)
-moves_of mean t =
-    opens t.claim.statement.m t.claim.statement.n (map mean t.claim.statement.matrix.now) (map mean t.claim.statement.vector.now)
-    ∷ puts (map mean t.claim.wires.left.now) ∷ puts (map mean t.claim.wires.right.now) ∷ puts (map mean t.claim.wires.out.now)
-    ∷ draws (mean t.alpha) ∷ draws (mean t.beta)
-    ∷ puts (map mean t.reply.r.now) ∷ puts (map mean t.reply.q.now) ∷ puts (map mean t.reply.h1.now) ∷ puts (map mean t.reply.h2.now)
-    ∷ draws (mean t.z) ∷ judges ∷ []
+abbrev pub calls_of : {E : Type 0} → Transcript E → List (Call E)
+calls_of t =
+    Open t.claim.statement ∷ Put t.claim.wires.left ∷ Put t.claim.wires.right ∷ Put t.claim.wires.out ∷ Draw t.alpha ∷ Draw t.beta
+    ∷ Put t.reply.r ∷ Put t.reply.q ∷ Put t.reply.h1 ∷ Put t.reply.h2 ∷ Draw t.z ∷ Judge ∷ []

@@ -1,6 +1,5 @@
-ghost use Rattle.std.specs.Prelude.{◌≡◌, map, IfOk};
-ghost use Rattle.ledger.specs.Ledger.{move_of};
-ghost use Rattle.ledger.specs.Transcripts.{moves_of};
+ghost use Rattle.std.specs.Prelude.{◌≡◌, IfOk};
+ghost use Rattle.ledger.specs.Transcripts.{calls_of};
 
 use crate::Call;
 use field::Field;
@@ -20,7 +19,7 @@ pub struct Transcript<'a, F> {
 impl<'a, F: Field> Transcript<'a, F> {
     // The calls that play it in a session, in their order.
     pub fn calls(self, heap: Global) -> Result<Vec<Call<'a, F>>, AllocError>
-        ensures { IfOk result (λ calls. map (move_of F.Field.mean) calls.items ≡ moves_of F.Field.mean self.entry) }
+        ensures { IfOk result (λ calls. calls.items ≡ calls_of self.entry) }
     {
         let Transcript {
             claim: Claim { statement, wires },

@@ -2,18 +2,14 @@
 use Rattle.std.proofs.Common.{◌≡◌, ℕ, ◌+◌, ◌*◌, ◌≤◌, Bool, true, false, cond, ltb, List, length, IfOk, Some, None, Ok, Err, Result, refl, ap, ◌∙◌, mul-le-mul, arith}
 use Rattle.std.proofs.lemmas.Bool.Decides.{nat_tests}
 use Rattle.field.specs.Field.{Ops}
-use Rattle.polynomial.specs.Refusals.{Told}
 use Rattle.prover.specs.Claims.{in_range}
-use Rattle.oracle.specs.Standing.{Standing, free_of, needs_answer, answer_by}
+use Rattle.oracle.specs.Standing.{Standing, free_of, answer_by}
 use Rattle.oracle.specs.declared.fault.OracleFault.TheVariants.{NoRoom}
 use Rattle.ledger.specs.Faults.{told, told_answer}
 use Rattle.ledger.specs.Ledger.{in_shape, room_refusal, open_refusal}
 use Rattle.ledger.specs.declared.fault.SessionFault.{SessionFault}
 use Rattle.ledger.specs.declared.fault.SessionFault.TheVariants.{BadSize, BadLength, Oracle}
 use Rattle.session.specs.Statements.{FitsLists}
-
-pub needs_given : {K : Type 0} (st : Standing K) (p : List K) (t : Told) → length p ≤ 16384 → Err t ≡ needs_answer st p → ⊥
-needs_given st p t l h = grind (arith, nat_tests)
 
 -- sizes and lengths that are not refused
 module _ {K : Type 0} (f : Ops K) (st : Standing K) (m n : ℕ) (matrix vector : List K) (range : in_range f.span m n ≡ true) (shape : in_shape m n (length matrix) (length vector) ≡ true) where

@@ -1,4 +1,4 @@
--- The numbers of the verdicts.
+-- The numbers and the words of the verdicts.
 use Rattle.std.specs.Prelude.{ℕ, List, codes}
 use Rattle.session.specs.declared.verdicts.Verdict.{Verdict}
 use Rattle.session.specs.declared.verdicts.Verdict.TheVariants.{Pending, Accepted, TurnedDown}

@@ -40,7 +40,7 @@ impl fmt::Display for Verdict {
 }
 
 // What a session says of itself: its turn, its verdict, and how many calls it refused, up to 4,294,967,295.
-#[derive(Clone, Copy)]
+#[derive(Clone, Copy, PartialEq, Eq, Debug)]
 pub struct Report {
     pub turn: u8,
     pub verdict: Verdict,

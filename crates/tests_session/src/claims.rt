@@ -1,18 +1,14 @@
 // Inner-product claims at the edges: the span of the field, and a point that is zero.
 use field::Field;
 use gf256::Gf256;
-use inner_product::{InnerProductClaim, Values};
+use inner_product::{ClaimFault, InnerProductClaim, Values};
 use mersenne31::{Mersenne31, P};
+use std::test::Fail;
 
 // The number of the refusal of a claim with d at z, where it is refused.
 fn refusal<F: Field>(d: usize, z: F) -> Option<u32> {
-    match InnerProductClaim::state(d, F::one(), z) {
-        Ok(claim) => {
-            let _no = claim.withdraw();
-            None
-        }
-        Err(e) => Some(e.number()),
-    }
+    let withdrawn = InnerProductClaim::state(d, F::one(), z).map(|claim| claim.withdraw());
+    withdrawn.err().map(ClaimFault::number)
 }
 
 #[test]
@@ -28,24 +24,17 @@ fn refusals(rt: HostRuntime) {
 
 // With d = 1 and z = 2: 7·yh - yh2 = 2·(ya·yb - c).
 #[test]
-fn settlements(rt: HostRuntime) {
+fn settlements(rt: HostRuntime) -> Result<(), Fail> {
     let (c, z) = (Mersenne31(5), Mersenne31(2));
-    if let Ok(claim) = InnerProductClaim::state(1, c, z) {
-        let yes = claim.settle(Values {
+    for (yh2, balances) in [(0, true), (1, false)] {
+        let at = Values {
             ya: Mersenne31(3),
             yb: Mersenne31(4),
             yh: Mersenne31(2),
-            yh2: Mersenne31(0),
-        });
-        assert_eq!(rt; yes, true);
+            yh2: Mersenne31(yh2),
+        };
+        let said = InnerProductClaim::state(1, c, z)?.settle(at);
+        assert_eq!(rt; said, balances);
     }
-    if let Ok(claim) = InnerProductClaim::state(1, c, z) {
-        let no = claim.settle(Values {
-            ya: Mersenne31(3),
-            yb: Mersenne31(4),
-            yh: Mersenne31(2),
-            yh2: Mersenne31(1),
-        });
-        assert_eq!(rt; no, false);
-    }
+    Ok(())
 }

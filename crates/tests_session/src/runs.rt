@@ -6,7 +6,7 @@ use ledger::Transcript;
 use mersenne31::Mersenne31;
 use oracle::Oracle;
 use prover::{Challenges, Claim, Layout, Statement, Wires};
-use session::{Report, run};
+use session::{Report, Verdict, run};
 use sparse_oracle::SparseOracle;
 use std::alloc::Global;
 use std::process::Abort;
@@ -81,27 +81,51 @@ fn byte<O: Oracle<Elem = Gf256> + Drop>(heap: Global, oracle: O, x: u8) -> Resul
 }
 
 // A finished run, none of whose calls was refused, has this verdict.
-fn found(rt: &impl Abort, report: Report, verdict: u32) {
-    assert_eq!(rt; (report.turn, report.count), (12, 0));
-    assert_eq!(rt; report.verdict.number(), verdict);
+fn found(rt: &impl Abort, report: Report, verdict: Verdict) {
+    let finished = Report {
+        turn: 12,
+        verdict,
+        count: 0,
+    };
+    assert_eq!(rt; report, finished);
+}
+
+#[test]
+fn numbers(rt: HostRuntime) {
+    assert_eq!(rt; Verdict::Accepted.number(), 1);
+    assert_eq!(rt; Verdict::TurnedDown.number(), 2);
+}
+
+// Where r, q, h1 and h2 of one row and one gate end.
+#[test]
+fn ends(rt: HostRuntime) -> Result<(), Fail> {
+    for layout in [Layout::of::<Mersenne31>(1, 1)?, Layout::of::<Gf256>(1, 1)?] {
+        assert_eq!(rt;
+            (layout.r_end, layout.q_end, layout.h1_end, layout.h2_end),
+            (4, 4, 11, 12)
+        );
+    }
+    Ok(())
 }
 
 #[test]
 fn primes(rt: HostRuntime) -> Result<(), Fail> {
     let heap = rt.alloc();
-    found(&rt, prime(heap, DenseOracle::new(heap, 20)?, 31)?, 1);
-    found(&rt, prime(heap, DenseOracle::new(heap, 20)?, 32)?, 2);
-    found(&rt, prime(heap, SparseOracle::new(heap, 20)?, 31)?, 1);
-    found(&rt, prime(heap, SparseOracle::new(heap, 20)?, 32)?, 2);
+    let (yes, no) = (Verdict::Accepted, Verdict::TurnedDown);
+    found(&rt, prime(heap, DenseOracle::new(heap, 20)?, 31)?, yes);
+    found(&rt, prime(heap, DenseOracle::new(heap, 20)?, 32)?, no);
+    found(&rt, prime(heap, SparseOracle::new(heap, 20)?, 31)?, yes);
+    found(&rt, prime(heap, SparseOracle::new(heap, 20)?, 32)?, no);
     Ok(())
 }
 
 #[test]
 fn bytes(rt: HostRuntime) -> Result<(), Fail> {
     let heap = rt.alloc();
-    found(&rt, byte(heap, DenseOracle::new(heap, 20)?, 0xc1)?, 1);
-    found(&rt, byte(heap, DenseOracle::new(heap, 20)?, 0xc2)?, 2);
-    found(&rt, byte(heap, SparseOracle::new(heap, 20)?, 0xc1)?, 1);
-    found(&rt, byte(heap, SparseOracle::new(heap, 20)?, 0xc2)?, 2);
+    let (yes, no) = (Verdict::Accepted, Verdict::TurnedDown);
+    found(&rt, byte(heap, DenseOracle::new(heap, 20)?, 0xc1)?, yes);
+    found(&rt, byte(heap, DenseOracle::new(heap, 20)?, 0xc2)?, no);
+    found(&rt, byte(heap, SparseOracle::new(heap, 20)?, 0xc1)?, yes);
+    found(&rt, byte(heap, SparseOracle::new(heap, 20)?, 0xc2)?, no);
     Ok(())
 }

@@ -152,8 +152,8 @@ impl<O: Oracle> Session<O> {
     {
         self.oracle.clear();
         // Both find room.
-        let _ = self.oracle.fix(statement.matrix);
-        let _ = self.oracle.fix(statement.vector);
+        self.oracle.fix(statement.matrix).unwrap();
+        self.oracle.fix(statement.vector).unwrap();
         self.m = statement.m;
         self.n = statement.n;
         self.turn = 1;
