@@ -1,21 +1,31 @@
--- The claim that lists of values stand for, where the values are those of words.
-use Rattle.std.proofs.Common.{◌≡◌, ℕ, List, map, ap, ◌∙◌}
+-- The claim that values stand for, where the values are those of words.
+use Rattle.std.proofs.Common.{◌≡◌, ℕ, List, map, vec_items, ap, ◌∙◌}
 use mathlib.Core.List.{map-map}
-use Rattle.prover.specs.Claims.{claimed}
+use Rattle.prover.specs.Claims.{claim_of}
+use Rattle.prover.specs.Owned.{owned_claim, Lends}
+use Rattle.prover.specs.declared.claim.Claim.{Claim as LentClaim}
+use Rattle.prover.specs.declared.owned.OwnedClaim.{OwnedClaim}
+use Rattle.prover.proofs.OwnedClaims.{lent_claim}
+use Rattle.claim_file.specs.Grammar.{Claim}
+use Rattle.claim_check.specs.Outcome.{stated}
+use Rattle.claim_check.specs.Values.{ValuesOf}
 
-module _ {X K : Type 0} (mean : X → K) (element : ℕ → X) where
-  abbrev stands : ℕ → K
-  stands w = mean (element w)
+module _ {X K : Type 0} (mean : X → K) (element : ℕ → X) (c : Claim) (values : OwnedClaim X) (v : ValuesOf element c values) where
+  stand : (xs : List X) (words : List ℕ) → xs ≡ map element words → map mean xs ≡ map (λ w. mean (element w)) words
+  stand xs words e = ap (map mean) e ∙ map-map mean element words
 
-  -- a list of the values of words that are read
-  pub record Valued (xs : List X) (read words : List ℕ) : Type 0 where
-    pub values : xs ≡ map element read
-    pub is : read ≡ words
+  valued : owned_claim mean values ≡ stated (λ w. mean (element w)) c
+  valued =
+      cc (
+        stand (vec_items values.matrix) c.matrix v.matrix,
+        stand (vec_items values.vector) c.vector v.vector,
+        stand (vec_items values.left) c.left v.left,
+        stand (vec_items values.right) c.right v.right,
+        stand (vec_items values.out) c.out v.out,
+        v.rows,
+        v.gates,
+      )
 
-  pub words_stand : (xs : List X) (read words : List ℕ) → Valued xs read words → map mean xs ≡ map stands words
-  words_stand xs read words v = ap (map mean) v.values ∙ map-map mean element read ∙ ap (map stands) v.is
-
-  pub same_claim : (m n : ℕ) (a b c d e : List X) (ra rb rc rd re wa wb wc wd we : List ℕ) → Valued a ra wa → Valued b rb wb → Valued c rc wc → Valued d rd wd → Valued e re we
-      → claimed mean m n a b c d e ≡ claimed stands m n wa wb wc wd we
-  same_claim m n a b c d e ra rb rc rd re wa wb wc wd we va vb vc vd ve =
-      cc (words_stand a ra wa va, words_stand b rb wb vb, words_stand c rc wc vc, words_stand d rd wd vd, words_stand e re we ve)
+  -- the same of what they lend
+  pub lent_values : (l : LentClaim X) → Lends values l → claim_of mean l ≡ stated (λ w. mean (element w)) c
+  lent_values l h = lent_claim mean values l h ∙ valued

@@ -1,7 +1,6 @@
 ghost use Rattle.std.specs.Prelude.{◌≡◌, map, IfOk};
-ghost use Rattle.prover.specs.Owned.{owned_claim};
 ghost use Rattle.claim_file.specs.Answer.{meaning};
-ghost use Rattle.claim_check.specs.Outcome.{stated};
+ghost use Rattle.claim_check.specs.Values.{ValuesOf};
 
 use claim_file::ClaimFile;
 use field::Encoded;
@@ -10,7 +9,7 @@ use std::alloc::{AllocError, Global};
 
 // The claim of a file as values of the field `F`.
 pub fn values_of<F: Encoded>(heap: Global, claim: &ClaimFile) -> Result<OwnedClaim<F>, AllocError>
-    ensures { IfOk result (λ c. owned_claim F.Field.mean c ≡ stated (λ w. F.Field.mean (F.Encoded.element w)) (meaning claim.now)) }
+    ensures { IfOk result (ValuesOf F.Encoded.element (meaning claim.now)) }
 {
     let matrix = elements(heap, &claim.matrix)?;
     let vector = elements(heap, &claim.vector)?;

@@ -67,9 +67,8 @@ fn prove_values<F: Encoded>(
     let layout = Layout::of::<F>(claim.statement.m, claim.statement.n)?;
     let mut cells = vec![in heap; F::zero(); layout.h2_end]?;
     claim.prove(at, &mut cells)?;
-    let Some(reply) = layout.split(&cells) else {
-        unreachable!()
-    };
+    // The layout is that of the cells.
+    let reply = layout.split(&cells).unwrap();
     let proof = spelled(heap, reply)?;
     Ok(proof)
 }

@@ -12,32 +12,22 @@ use prover::{Challenges, Layout, OwnedClaim};
 use std::alloc::{AllocError, Global};
 use std::io::{BufWriter, Write};
 
-// A field whose elements are made of words, and printed as numbers.
-trait Printed: Encoded {
+// A field whose elements are made of words of a sequence.
+trait Sequenced: Encoded {
     // The element of a word of the sequence.
     fn of_sequence(word: u32) -> Self;
-
-    fn number(self) -> u32;
 }
 
-impl Printed for Mersenne31 {
+impl Sequenced for Mersenne31 {
     fn of_sequence(word: u32) -> Mersenne31 {
         Mersenne31::from_word(word)
-    }
-
-    fn number(self) -> u32 {
-        self.0
     }
 }
 
 // A byte is taken from the middle of a word, where the sequence is least regular.
-impl Printed for Gf256 {
+impl Sequenced for Gf256 {
     fn of_sequence(word: u32) -> Gf256 {
         Gf256::from_word(word / 65536)
-    }
-
-    fn number(self) -> u32 {
-        u32::from(self.0)
     }
 }
 
@@ -54,7 +44,7 @@ fn main(rt: HostRuntime) -> anyhow::Result<()> {
 }
 
 // Proves claims of one to four rows and one to five gates.
-fn write_small<F: Printed>(
+fn write_small<F: Sequenced>(
     heap: Global,
     out: &mut impl Write,
     word: &mut u32,
@@ -77,27 +67,22 @@ fn following(word: &mut u32) -> u32
 }
 
 // Elements of the next words.
-fn list<F: Printed>(heap: Global, word: &mut u32, n: usize) -> Result<Vec<F>, AllocError> {
-    let mut list = Vec::new(heap);
-    for _ in 0..n {
-        list.push(F::of_sequence(following(word)))?;
-    }
-    Ok(list)
+fn list<F: Sequenced>(heap: Global, word: &mut u32, n: usize) -> Result<Vec<F>, AllocError> {
+    (0..n)
+        .map(|_| F::of_sequence(following(word)))
+        .collect(heap)
 }
 
 // The first element of the next words that is not zero, or one where there are many zeros.
-fn challenge<F: Printed>(word: &mut u32) -> F {
-    for _ in 0..1000u32 {
-        let x = F::of_sequence(following(word));
-        if !x.is_zero() {
-            return x;
-        }
-    }
-    F::one()
+fn challenge<F: Sequenced>(word: &mut u32) -> F {
+    (0..1000u32)
+        .map(|_| F::of_sequence(following(word)))
+        .find(|x| !x.is_zero())
+        .unwrap_or(F::one())
 }
 
 // The claim of the next words.
-fn next_claim<F: Printed>(
+fn next_claim<F: Sequenced>(
     heap: Global,
     word: &mut u32,
     m: usize,
@@ -117,7 +102,7 @@ fn next_claim<F: Printed>(
 }
 
 // Proves the next claim, and writes its polynomials, a line each.
-fn write_proof<F: Printed>(
+fn write_proof<F: Sequenced>(
     heap: Global,
     out: &mut impl Write,
     word: &mut u32,
@@ -147,10 +132,10 @@ fn write_proof<F: Printed>(
 }
 
 // The name of a polynomial and its coefficients.
-fn write_part<F: Printed>(out: &mut impl Write, name: &str, part: &[F]) -> anyhow::Result<()> {
+fn write_part<F: Sequenced>(out: &mut impl Write, name: &str, part: &[F]) -> anyhow::Result<()> {
     write!(out, "{name}")?;
     for x in part {
-        write!(out, " {}", x.number())?;
+        write!(out, " {}", x.to_word())?;
     }
     writeln!(out)?;
     Ok(())

@@ -1,6 +1,6 @@
 // The commands that take arguments.
-use crate::options::Options;
-use anyhow::{Context, anyhow};
+use crate::options::{Options, element_of};
+use anyhow::Context;
 use claim_check::{CheckFault, check_text, verdict};
 use claim_file::ClaimFile;
 use claim_prove::prove_claim;
@@ -55,9 +55,9 @@ pub fn check(rt: &HostRuntime, path: &str) -> anyhow::Result<Ending> {
 
 // Reads the claim in a file and prints the honest reply to it, at the challenges that the options say.
 pub fn prove(rt: &HostRuntime, path: &str, words: &[String]) -> anyhow::Result<Ending> {
-    let Some(options) = Options::of(words) else {
-        return Err(anyhow!("prove: an option is not one of those in registry --help"));
-    };
+    let options = Options::of(words).context(
+        "prove: an option is not one of those in registry --help",
+    )?;
     let Some(text) = contents(rt, path)? else {
         return Ok(Ending::Refused);
     };
@@ -71,10 +71,10 @@ fn prove_at(rt: &HostRuntime, claim: &ClaimFile, options: Options<'_>) -> anyhow
     let field = claim.field;
     let wanted = "prove: --alpha and --beta are wanted; see registry --help";
     let at = Challenges {
-        alpha: options.element("--alpha", field)?.context(wanted)?,
-        beta: options.element("--beta", field)?.context(wanted)?,
-        free1: options.element("--free1", field)?.unwrap_or(0),
-        free2: options.element("--free2", field)?.unwrap_or(0),
+        alpha: element_of(options.alpha, field)?.context(wanted)?,
+        beta: element_of(options.beta, field)?.context(wanted)?,
+        free1: element_of(options.free1, field)?.unwrap_or(0),
+        free2: element_of(options.free2, field)?.unwrap_or(0),
     };
     match prove_claim(rt.alloc(), claim, at) {
         Ok(proof) => {

@@ -1,49 +1,49 @@
 // Options of a command: pairs of a name and a value.
-use anyhow::anyhow;
+use anyhow::Context;
 use claim_file::{FieldName, element};
 
-// The words behind a command, which are pairs of one of the names of `prove` and a value.
+// The values of the options of `prove`; of an option that is given twice the first counts.
 #[derive(Clone, Copy)]
 pub struct Options<'a> {
-    words: &'a [String],
+    pub alpha: Option<&'a str>,
+    pub beta: Option<&'a str>,
+    pub free1: Option<&'a str>,
+    pub free2: Option<&'a str>,
 }
 
 impl<'a> Options<'a> {
-    // The options that the words say, if they are such pairs.
+    // The options that words say, if they are pairs of a name and a value.
     pub fn of(words: &'a [String]) -> Option<Options<'a>> {
-        for pair in words.chunks(2) {
-            match pair {
-                [name, _] if is_name(name.as_str()) => {}
-                _ => return None,
-            }
-        }
-        Some(Options { words })
-    }
-
-    // The element of the field that the value of an option spells, where the option is given.
-    pub fn element(self, name: &str, field: FieldName) -> anyhow::Result<Option<u32>> {
-        let Some(word) = self.value(name) else {
-            return Ok(None);
+        let mut options = Options {
+            alpha: None,
+            beta: None,
+            free1: None,
+            free2: None,
         };
-        match element(field, word.as_bytes()) {
-            Some(x) => Ok(Some(x)),
-            None => Err(anyhow!("prove: an option is no element of the claim's field")),
+        for pair in words.chunks(2) {
+            let [name, value] = pair else {
+                return None;
+            };
+            let option = match name.as_str() {
+                "--alpha" => &mut options.alpha,
+                "--beta" => &mut options.beta,
+                "--free1" => &mut options.free1,
+                "--free2" => &mut options.free2,
+                _ => return None,
+            };
+            *option = option.or(Some(value.as_str()));
         }
-    }
-
-    // The value that stands behind a name.
-    fn value(self, name: &str) -> Option<&'a str> {
-        for pair in self.words.chunks(2) {
-            if let [key, value] = pair {
-                if key.as_str() == name {
-                    return Some(value.as_str());
-                }
-            }
-        }
-        None
+        Some(options)
     }
 }
 
-fn is_name(word: &str) -> bool {
-    matches!(word, "--alpha" | "--beta" | "--free1" | "--free2")
+// The element of the field that the value of an option spells, where the option is given.
+pub fn element_of(value: Option<&str>, field: FieldName) -> anyhow::Result<Option<u32>> {
+    let Some(word) = value else {
+        return Ok(None);
+    };
+    let x = element(field, word.as_bytes()).context(
+        "prove: an option is no element of the claim's field",
+    )?;
+    Ok(Some(x))
 }

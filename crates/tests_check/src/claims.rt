@@ -2,7 +2,20 @@ ghost use Rattle.std.specs.Prelude.{◌≡◌};
 ghost use Rattle.prover.specs.Claims.{claim_of, claimed};
 
 // Claims of lent lists.
+use mersenne31::Mersenne31;
 use prover::{Claim, Statement, Wires};
+
+// Two rows of four entries: (5, 1, 2, 3) and (1, 0, 0, 1).
+pub const ROWS: [Mersenne31; 8] = [
+    Mersenne31(5),
+    Mersenne31(1),
+    Mersenne31(2),
+    Mersenne31(3),
+    Mersenne31(1),
+    Mersenne31(0),
+    Mersenne31(0),
+    Mersenne31(1),
+];
 
 // The claim of these sizes, matrix, vector and three wires.
 pub fn claim<'a, F>(

@@ -1,4 +1,5 @@
 // Division, middle product and value in both fields, and lengths that do not fit.
+use crate::claims::ROWS;
 use field::Field;
 use gf256::Gf256;
 use mersenne31::Mersenne31;
@@ -12,19 +13,9 @@ fn spans(rt: HostRuntime) {
 
 #[test]
 fn two_rows(rt: HostRuntime) {
-    let rows = [
-        Mersenne31(5),
-        Mersenne31(1),
-        Mersenne31(2),
-        Mersenne31(3),
-        Mersenne31(1),
-        Mersenne31(0),
-        Mersenne31(0),
-        Mersenne31(1),
-    ];
     let mut q = [Mersenne31(9); 4];
     let mut r = [Mersenne31(9); 4];
-    assert_eq!(rt; divide(&rows, Mersenne31(10), &mut q, &mut r), Ok(()));
+    assert_eq!(rt; divide(&ROWS, Mersenne31(10), &mut q, &mut r), Ok(()));
     assert_eq!(rt; (q[0].0, q[1].0, q[2].0, q[3].0), (1, 0, 0, 1));
     assert_eq!(rt; (r[0].0, r[1].0, r[2].0, r[3].0), (15, 1, 2, 13));
 }

@@ -37,13 +37,9 @@ fn refuses_a_zero_challenge(rt: HostRuntime) -> Result<(), Fail> {
         free1: 0,
         free2: 0,
     };
-    match prove_claim(heap, &claim, at) {
-        Ok(_) => Err(Fail::new("a challenge that is zero was taken")),
-        Err(e) => {
-            assert_eq!(rt; e, CheckFault::Refused(Refusal::ZeroChallenge));
-            Ok(())
-        },
-    }
+    let fault = prove_claim(heap, &claim, at).err();
+    assert_eq!(rt; fault, Some(CheckFault::Refused(Refusal::ZeroChallenge)));
+    Ok(())
 }
 
 #[test]

@@ -1,19 +1,8 @@
 // The honest prover on two rows and one gate: which cells it fills, and when it refuses.
-use crate::claims::claim;
+use crate::claims::{ROWS, claim};
 use field::Field;
 use mersenne31::{Mersenne31, P};
 use prover::{Challenges, Refusal};
-
-const ROWS: [Mersenne31; 8] = [
-    Mersenne31(5),
-    Mersenne31(1),
-    Mersenne31(2),
-    Mersenne31(3),
-    Mersenne31(1),
-    Mersenne31(0),
-    Mersenne31(0),
-    Mersenne31(1),
-];
 
 const LEFT: [Mersenne31; 1] = [Mersenne31(2)];
 

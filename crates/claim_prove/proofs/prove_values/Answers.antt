@@ -25,13 +25,15 @@ returns g c =
     let room : length was ≡ reply_cells s.m s.n = omega (arith, c.deref_mut.ensures.len, c.in_ok-cells.ensures.len) in
     let same : is ≡ c.prove.new.buffer = c.deref.ensures.value ∙ with_items_is c.in_ok-cells.cells c.prove.new.buffer (omega (arith, c.deref_mut.ensures.len)) in
     let long : length is ≡ reply_cells s.m s.n = ap length same ∙ omega (arith, room) in
-    let split = subst (λ (l : Layout). SplitAt l is c.in-Some.reply) lies c.in-Some.ensures.parts in
+    let reply = c.unwrap-reply.result in
+    let parts = rw c.unwrap-reply.ensures at c.split.ensures.parts in
+    let split = subst (λ (l : Layout). SplitAt l is reply) lies parts in
     let spells = c.in_ok-proof.ensures in
     let law = g.met.F.Encoded.spelled in
     record {
       taken = subst (λ (l : ℕ). proof_refusal f.ops s α β l ≡ None) room proved.0;
       replied = subst (λ (r : Reply f.K). Replied f.ops s r α β v1 v2)
-          (same_reply f.mean e.element e.spelling law s.m s.n is long c.in-Some.reply split c.in_ok-proof.proof spells)
+          (same_reply f.mean e.element e.spelling law s.m s.n is long reply split c.in_ok-proof.proof spells)
           (subst (λ (l : List _). Replied f.ops s (reply_in s.m s.n (map f.mean (take (reply_cells s.m s.n) l))) α β v1 v2) (sym same) proved.1.replied);
-      spelled = written f.mean e.element e.spelling law s.m s.n is long c.in-Some.reply split c.in_ok-proof.proof spells;
+      spelled = written f.mean e.element e.spelling law s.m s.n is long reply split c.in_ok-proof.proof spells;
     }

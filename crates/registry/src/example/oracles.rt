@@ -7,7 +7,8 @@ use ledger::Transcript;
 use oracle::Oracle;
 use sparse_oracle::SparseOracle;
 
-const CELLS: u64 = 700;
+// The cells of each oracle of the example.
+pub const CELLS: u64 = 700;
 
 // The points at which both are asked.
 const POINTS: [Gf256; 3] = [Gf256(0x00), Gf256(0x57), Gf256(0x83)];

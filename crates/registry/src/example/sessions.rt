@@ -1,4 +1,5 @@
 // The example's transcript, played through the verifier's session over oracles of both makes.
+use crate::example::oracles::CELLS;
 use dense_oracle::DenseOracle;
 use gf256::Gf256;
 use ledger::{Call, SessionFault, Transcript};
@@ -7,8 +8,6 @@ use prover::{Claim, Statement};
 use session::{Report, Session, run};
 use sparse_oracle::SparseOracle;
 use std::alloc::{AllocError, Global};
-
-const CELLS: u64 = 700;
 
 // Calls that are refused, among some that are not.
 fn out_of_order<'a>(t: Transcript<'a, Gf256>) -> [Call<'a, Gf256>; 9] {

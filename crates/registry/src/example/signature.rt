@@ -52,13 +52,14 @@ pub fn print_system(rt: &HostRuntime) -> anyhow::Result<()> {
 
 // The constant of an equation, its linear and its quadratic part.
 fn print_equation(rt: &HostRuntime, equation: &[u8]) -> anyhow::Result<()> {
-    for c in equation.iter().take(1) {
-        print!(rt; "{c:02x}")?;
+    let (linear, quadratic) = equation.split_at((1 + VARIABLES).min(equation.len()));
+    if let Some((constant, linear)) = linear.split_first() {
+        print!(rt; "{constant:02x}")?;
+        for (i, c) in linear.iter().enumerate() {
+            print!(rt; " + {c:02x}*s{}", i.saturating_add(1))?;
+        }
     }
-    for (i, c) in equation.iter().enumerate().take(1 + VARIABLES).skip(1) {
-        print!(rt; " + {c:02x}*s{i}")?;
-    }
-    for (c, (a, b)) in equation.iter().skip(1 + VARIABLES).zip(PAIRS) {
+    for (c, (a, b)) in quadratic.iter().zip(PAIRS) {
         print!(rt;
             " + {c:02x}*s{}*s{}",
             a.saturating_add(1),
