@@ -1,8 +1,8 @@
 -- The first place of a list at which a test is true, and the variables by position.
-use Rattle.std.proofs.Common.{◌≡◌, ℕ, ◌+◌, ◌-◌, ◌*◌, ◌<◌, ◌≤◌, Bool, true, cond, not, ◌&&◌, eqb, ltb, List, [], ◌∷◌, map, length, get_or, is_some, Some, None, sym, refl, ap, ◌∙◌, arith}
+use Rattle.std.proofs.Common.{◌≡◌, ℕ, ◌+◌, ◌-◌, ◌*◌, ◌<◌, ◌≤◌, Bool, true, cond, not, ◌&&◌, ◌||◌, eqb, ltb, List, [], ◌∷◌, map, length, get_or, is_some, Some, None, sym, refl, ap, ◌∙◌, arith}
 use Rattle.std.proofs.lemmas.List.{length-append, length-map, get_or-map, get_or_append_left, get_or-append_right}
 use Rattle.std.proofs.lemmas.List.Folds.{prefix_len-append}
-use Rattle.std.specs.List.{All, position, prefix_len, range_with_len, slice_get}
+use Rattle.std.specs.List.{All, list_any, position, prefix_len, range_with_len, slice_get}
 use Rattle.std.proofs.lemmas.List.FromFn.{length-range_with_len, get_or-range_with_len}
 use Rattle.std.proofs.lemmas.Option.{gets}
 use Rattle.std.proofs.lemmas.List.Sums.{prefix_len-le-length, fails_before_first, passes_at_first}
@@ -29,6 +29,12 @@ slice_get-range n p =
 prefix_len-map : {A B : Type 0} (test : B → Bool) (h : A → B) (xs : List A) → prefix_len test (map h xs) ≡ prefix_len (λ x. test (h x)) xs
 prefix_len-map test h [] = refl
 prefix_len-map test h (x ∷ xs) = ap (λ k. cond (test (h x)) (1 + k) 0) (prefix_len-map test h xs)
+
+-- whether no pair has the variable: no left side and no right side is it
+unmet : (i : ℕ) (pairs : List (ℕ × ℕ)) → not (list_any (λ (q : ℕ × ℕ). eqb i q.0 || eqb i q.1) pairs)
+    ≡ (eqb (first_where (λ (q : ℕ × ℕ). eqb i q.0) pairs) (length pairs) && eqb (first_where (λ (q : ℕ × ℕ). eqb i q.1) pairs) (length pairs))
+unmet i [] = refl
+unmet i (q ∷ qs) = let h = unmet i qs in grind (arith, nat_tests)
 
 module _ (pairs : List (ℕ × ℕ)) where
   pub length_names : length (names pairs) ≡ 2 * length pairs
@@ -99,6 +105,15 @@ module _ (pairs : List (ℕ × ℕ)) where
   unplaced i =
       let upto = first_le (eqb i) (names pairs) in
       let long = length_names in
+      grind (arith, nat_tests)
+
+  -- the same by the pairs themselves
+  pub unpaired : (i : ℕ) → not (list_any (λ (q : ℕ × ℕ). eqb i q.0 || eqb i q.1) pairs) ≡ eqb (first pairs i) (2 * length pairs)
+  unpaired i =
+      let sides = first_by_sides i in
+      let left = first_le (λ (q : ℕ × ℕ). eqb i q.0) pairs in
+      let right = first_le (λ (q : ℕ × ℕ). eqb i q.1) pairs in
+      let both = unmet i pairs in
       grind (arith, nat_tests)
 
   -- the search for the variable of a position finds one

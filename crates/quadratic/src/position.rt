@@ -1,5 +1,5 @@
 ghost use Rattle.std.specs.Prelude.{◌≡◌, ◌*◌, ◌<◌, ◌==◌, length, position};
-ghost use Rattle.quadratic.specs.Positions.{name_at, names, stray, unused};
+ghost use Rattle.quadratic.specs.Positions.{name_at, names, first, stray, unused};
 ghost use Rattle.quadratic.specs.Refusals.{found};
 
 // The variable at wire position `p`: the first of pair `p`, and past those the second of pair `p - n`.
@@ -35,5 +35,12 @@ pub(crate) fn first_stray(variables: usize, pairs: &[(usize, usize)]) -> Option<
 pub(crate) fn first_unused(variables: usize, pairs: &[(usize, usize)]) -> Option<usize>
     ensures { result ≡ found variables (unused variables pairs.now) }
 {
-    (0..variables).find(|&i| first_position(pairs, i).is_none())
+    (0..variables).find(|&i| is_unused(pairs, i))
+}
+
+// Whether variable `i` is in no pair. One pass, which ends at the first pair that has it on either side.
+fn is_unused(pairs: &[(usize, usize)], i: usize) -> bool
+    ensures { result ≡ (first pairs.now i == 2 * length pairs.now) }
+{
+    !pairs.iter().any(|pair| i == pair.0 || i == pair.1)
 }
