@@ -5,7 +5,7 @@ use crate::claim::{Challenges, Claim, Statement, Wires};
 use crate::refusal::{Refusal, in_range};
 use crate::scale::scale;
 use field::Field;
-use polynomial::{divide, middle_product, solve_twist};
+use polynomial::{divide, inner_product, middle_product, solve_twist};
 
 // A claim whose sizes the field allows, with every entry of its matrix and of its wires.
 #[derive(Drop)]
@@ -71,7 +71,7 @@ impl<'a, F: Field> FullClaim<'a, F> {
         requires in_vector { i < length self.now.claim.statement.vector.now }
         ensures { result ≡ F.Field.ops.same (coeff F.Field.ops (map F.Field.mean self.now.claim.statement.vector.now) i) (row_of F.Field.ops (claim_of F.Field.mean self.now.claim) i) }
     {
-        self.claim.statement.vector[i].same(self.wires_product(0, self.row(i)))
+        self.claim.statement.vector[i].same(self.row_product(i))
     }
 
     // Whether `wl[i]·wr[i] = wo[i]`.
@@ -82,6 +82,20 @@ impl<'a, F: Field> FullClaim<'a, F> {
     {
         let Wires { left, right, out } = self.claim.wires;
         left[i].times(right[i]).same(out[i])
+    }
+
+    // Entry `i` of `M·(1, wl, wr, wo)`, by the stretches of the row that stand over 1 and over each wire.
+    fn row_product(&self, i: usize) -> F
+        requires { i < self.now.claim.statement.m }
+        ensures { F.Field.mean result ≡ row_of F.Field.ops (claim_of F.Field.mean self.now.claim) i }
+    {
+        let n = self.claim.statement.n;
+        let Wires { left, right, out } = self.claim.wires;
+        let row = self.row(i);
+        let left = inner_product(&row[1..n + 1], left);
+        let right = inner_product(&row[n + 1..2 * n + 1], right);
+        let out = inner_product(&row[2 * n + 1..], out);
+        row[0].plus(left).plus(right).plus(out)
     }
 
     // Row `i` of the matrix.

@@ -1,6 +1,5 @@
 use Rattle.std.proofs.Common.{◌∙◌, ap₂}
 use Rattle.polynomial.proofs.Coefficients.{coeff_at}
-use Rattle.prover.proofs.Parts.{row_is}
 use Rattle.prover.proofs.full.FullClaim.row_holds.Goals as goal
 
 pub returns : goal.returns
@@ -8,5 +7,4 @@ returns g c =
     let f = g.F.Field in
     let self = c.args.self.now in
     c.same.ensures
-    ∙ ap₂ f.ops.same (coeff_at f.ops f.mean self.claim.statement.vector.now c.args.i c.index-self-i.result c.requires.in_vector)
-    (c.wires_product.ensures.means ∙ row_is f.ops g.met.F.Field.lawful f.mean self.claim c.args.i c.row.result.now c.requires.in_matrix self.matrix_long c.row.ensures)
+    ∙ ap₂ f.ops.same (coeff_at f.ops f.mean self.claim.statement.vector.now c.args.i c.index-self-i.result c.requires.in_vector) c.row_product.ensures
