@@ -60,7 +60,13 @@ fn line_ends(text: &[u8]) -> usize
     ensures within { result ≤ length text.now }
     ensures count { result ≡ length (filter (λ b. b == 10) text.now) }
 {
-    text.iter().filter(|&&b| b == LINE_END).count()
+    let mut ends = 0;
+    for &b in text {
+        if b == LINE_END {
+            ends += 1;
+        }
+    }
+    ends
 }
 
 // The line of the last byte.
@@ -91,14 +97,17 @@ impl<'a> Words<'a> {
         ensures { Passed self.old self.new }
     {
         let mut comment = false;
-        while let Some((&b, rest)) = self.rest.split_first() {
+        let (mut rest, mut line) = (self.rest, self.line);
+        while let Some((&b, after)) = rest.split_first() {
             if !in_gap(comment, b) {
-                return;
+                break;
             }
             comment = in_comment(comment, b);
-            self.line = line_after(self.line, b);
-            self.rest = rest;
+            line = line_after(line, b);
+            rest = after;
         }
+        self.rest = rest;
+        self.line = line;
     }
 
     // The next word, if there is one.
