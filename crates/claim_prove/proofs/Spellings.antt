@@ -14,7 +14,9 @@ use Rattle.prover.specs.declared.layout.Reply.{Reply as LentReply}
 use Rattle.claim_check.specs.declared.fault.CheckFault.{CheckFault}
 use Rattle.claim_check.specs.declared.fault.CheckFault.TheVariants.{Unreadable, Refused}
 use Rattle.claim_prove.specs.declared.Proof.{Proof}
-use Rattle.claim_prove.specs.Proofs.{reply_of, EachWord, ProvedBy, Spells, Written}
+use Rattle.claim_file.specs.Grammar.{Claim}
+use Rattle.claim_check.specs.Outcome.{stated}
+use Rattle.claim_prove.specs.Proofs.{reply_of, EachWord, ProvedBy, Spells, Written, without_vector}
 
 pub all_map : {P Q : ℕ → Type 0} (xs : List ℕ) → ((w : ℕ) → P w → Q w) → AllByRecursion P xs → AllByRecursion Q xs
 all_map [] h a = tt
@@ -35,6 +37,29 @@ weaker f stands P Q s α β v1 v2 (Ok p) h is = record {
 }
 weaker f stands P Q s α β v1 v2 (Err (Refused e)) h is = is
 weaker f stands P Q s α β v1 v2 (Err (Unreadable e)) h is = is
+
+-- an answer for the claim without its vector is one for the claim
+pub any_vector : {K : Type 0} (f : Ops K) (stands : ℕ → K) (P : ℕ → Type 0) (c : Claim) (α β v1 v2 : K) (r : Result Proof CheckFault)
+    → ProvedBy f stands P (stated stands (without_vector c)) α β v1 v2 r → ProvedBy f stands P (stated stands c) α β v1 v2 r
+any_vector f stands P c α β v1 v2 (Ok p) is = record {
+  taken = is.taken;
+  replied = record {
+    honest = record {
+      divided = is.replied.honest.divided;
+      h1_is = is.replied.honest.h1_is;
+      h2_is = is.replied.honest.h2_is;
+    };
+    free1 = is.replied.free1;
+    free2 = is.replied.free2;
+    r_long = is.replied.r_long;
+    q_long = is.replied.q_long;
+    h1_long = is.replied.h1_long;
+    h2_long = is.replied.h2_long;
+  };
+  spelled = is.spelled;
+}
+any_vector f stands P c α β v1 v2 (Err (Refused e)) is = is
+any_vector f stands P c α β v1 v2 (Err (Unreadable e)) is = is
 
 module _ {X K : Type 0} (mean : X → K) (element : ℕ → X) (spelling : X → ℕ) (law : (x : X) → mean (element (spelling x)) ≡ mean x) where
   abbrev stands : ℕ → K

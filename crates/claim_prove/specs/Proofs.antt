@@ -1,5 +1,5 @@
 -- What proving a claim file answers.
-use Rattle.std.specs.Prelude.{◌≡◌, ℕ, ◌<◌, map, Some, None, Ok, Err, vec_items, Result}
+use Rattle.std.specs.Prelude.{◌≡◌, ℕ, ◌<◌, [], map, Some, None, Ok, Err, vec_items, Result}
 use Rattle.std.specs.List.{AllByRecursion}
 use Rattle.field.specs.Field.{Ops}
 use Rattle.algebra.specs.Relation.{Claim as Statement}
@@ -51,6 +51,19 @@ ProvedBy f stands P s α β v1 v2 (Err (Unreadable e)) = e ≡ NoMemory
 abbrev pub ProvesWords : {K : Type 0} → Ops K → (ℕ → K) → (ℕ → Type 0) → Claim → Challenges ℕ → Result Proof CheckFault → Type 0
 ProvesWords f stands P c at r =
     ProvedBy f stands P (stated stands c) (stands at.alpha) (stands at.beta) (stands at.free1) (stands at.free2) r
+
+-- the claim without its vector, which no prover reads
+abbrev pub without_vector : Claim → Claim
+without_vector c = record {
+  field = c.field;
+  m = c.m;
+  n = c.n;
+  matrix = c.matrix;
+  vector = [];
+  left = c.left;
+  right = c.right;
+  out = c.out;
+}
 
 -- the same over the field of a name, in words below its order
 abbrev pub ProvesIn : FieldName → Claim → Challenges ℕ → Result Proof CheckFault → Type 0

@@ -4,14 +4,15 @@
 ghost use Rattle.std.specs.Prelude.{◌≡◌, map, IfOk, vec_len};
 ghost use Rattle.prover.specs.Claims.{claim_of};
 ghost use Rattle.claim_file.specs.Answer.{meaning};
-ghost use Rattle.claim_prove.specs.Proofs.{ProvedBy, ProvesWords, ProvesIn, Spells, Written};
+ghost use Rattle.claim_check.specs.Values.{ValuesOf};
+ghost use Rattle.claim_prove.specs.Proofs.{ProvedBy, ProvesWords, ProvesIn, Spells, Written, without_vector};
 
-use claim_check::{CheckFault, values_of};
+use claim_check::{CheckFault, elements};
 use claim_file::{ClaimFile, FieldName};
 use field::{Encoded, Field};
 use gf256::Gf256;
 use mersenne31::Mersenne31;
-use prover::{Challenges, Claim, Layout, Reply};
+use prover::{Challenges, Claim, Layout, OwnedClaim, Reply};
 use std::alloc::{AllocError, Global};
 
 // The polynomials of a proof, as words.
@@ -45,7 +46,7 @@ fn prove_words<F: Encoded>(
 ) -> Result<Proof, CheckFault>
     ensures { ProvesWords F.Field.ops (λ w. F.Field.mean (F.Encoded.element w)) (Written F.Encoded.spelling) (meaning claim.now) at result }
 {
-    let values = values_of::<F>(heap, claim)?;
+    let values = all_but_vector::<F>(heap, claim)?;
     let at = Challenges {
         alpha: F::from_word(at.alpha),
         beta: F::from_word(at.beta),
@@ -53,6 +54,25 @@ fn prove_words<F: Encoded>(
         free2: F::from_word(at.free2),
     };
     prove_values(heap, values.lent(), at)
+}
+
+// The claim of a file as values, but for its vector, which a prover does not read and which may have any length.
+fn all_but_vector<F: Encoded>(heap: Global, claim: &ClaimFile) -> Result<OwnedClaim<F>, AllocError>
+    ensures { IfOk result (ValuesOf F.Encoded.element (without_vector (meaning claim.now))) }
+{
+    let matrix = elements(heap, &claim.matrix)?;
+    let left = elements(heap, &claim.left)?;
+    let right = elements(heap, &claim.right)?;
+    let out = elements(heap, &claim.out)?;
+    Ok(OwnedClaim {
+        m: claim.m as usize,
+        n: claim.n as usize,
+        matrix,
+        vector: Vec::new(heap),
+        left,
+        right,
+        out,
+    })
 }
 
 // The same for the claim of lent values.
