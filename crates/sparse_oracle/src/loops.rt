@@ -14,7 +14,13 @@ pub(crate) fn count_values<F: Field>(p: &[F]) -> usize
     ensures means { result ≡ nonzero F.Field.ops (map F.Field.mean p.now) }
     ensures within { result ≤ length (map F.Field.mean p.now) }
 {
-    p.iter().filter(|x| !x.is_zero()).count()
+    let mut count = 0;
+    for x in p {
+        if !x.is_zero() {
+            count += 1;
+        }
+    }
+    count
 }
 
 // How many terms have a coefficient other than zero.
@@ -22,10 +28,13 @@ pub(crate) fn count_terms<F: Field>(terms: &[Term<F>]) -> usize
     ensures means { result ≡ nonzero F.Field.ops (coefficients_of F.Field.mean terms.now) }
     ensures within { result ≤ length terms.now }
 {
-    terms
-        .iter()
-        .filter(|term| !term.coefficient.is_zero())
-        .count()
+    let mut count = 0;
+    for term in terms {
+        if !term.coefficient.is_zero() {
+            count += 1;
+        }
+    }
+    count
 }
 
 // Puts up the terms of `p`, one for each coefficient other than zero.
