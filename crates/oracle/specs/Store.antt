@@ -1,5 +1,5 @@
 -- What stands in a store, and what fits into it.
-use Rattle.std.specs.Prelude.{ℕ, ◌+◌, ◌-◌, Bool, ◌&&◌, List, [], ◌∷◌, ◌++◌, length, take, nat_le, nat_lt, slice_index_or, slice_set, vec_items}
+use Rattle.std.specs.Prelude.{ℕ, ◌+◌, ◌-◌, Bool, ◌&&◌, List, [], ◌∷◌, ◌++◌, length, take, nat_le, nat_lt, slice_index_or, slice_set, vec_capacity, vec_items}
 use Rattle.std.specs.List.{flat_map}
 use Rattle.oracle.specs.Tables.{Kept, kept, parts}
 use Rattle.oracle.specs.declared.store.Store.{Store}
@@ -11,6 +11,10 @@ lists_of s = parts (vec_items s.storage) (take s.table.len s.table.entries)
 -- how many items it has room for in all
 abbrev pub room_of : {X : Type 0} → Store X → ℕ
 room_of s = s.room
+
+-- how many items its storage is reserved for
+abbrev pub reserved_of : {X : Type 0} → Store X → ℕ
+reserved_of s = vec_capacity s.storage
 
 -- the items of all lists, one list behind the other
 abbrev pub items_of : {X : Type 0} → List (Kept X) → List X

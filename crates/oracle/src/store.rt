@@ -25,13 +25,14 @@ pub struct Store<T> {
 impl<T: Copy> Store<T> {
     ghost use Rattle.std.specs.Prelude.{◌≡◌, ◌++◌, ◌∷◌, [], length, min, if◌then◌else◌, IfOk, option_map, slice_get};
     ghost use Rattle.std.specs.Option.{option_copied};
-    ghost use Rattle.oracle.specs.Store.{lists_of, room_of, items_of, fits, takes, extended};
+    ghost use Rattle.oracle.specs.Store.{lists_of, room_of, reserved_of, items_of, fits, takes, extended};
     ghost use Rattle.oracle.specs.Tables.{kept};
 
     // An empty store with room for so many items, but for no more than can ever stand.
     pub fn new(heap: Global, cells: u32) -> Result<Store<T>, AllocError>
         ensures empty { IfOk result (λ s. lists_of s ≡ []) }
         ensures room { IfOk result (λ s. room_of s ≡ min cells 262144) }
+        ensures reserved { IfOk result (λ s. reserved_of s ≡ min cells 262144) }
     {
         let room = (cells as usize).min(MOST_ITEMS);
         let storage = Vec::with_capacity(heap, room)?;
