@@ -43,18 +43,17 @@ pub fn encoded(heap: Global, signature: &[u8]) -> anyhow::Result<OwnedClaim<Gf25
 // The equations, a line each.
 pub fn print_system(rt: &HostRuntime) -> anyhow::Result<()> {
     for (i, equation) in SYSTEM.chunks(TERMS).enumerate() {
-        print!(rt; "  y{} = ", i.saturating_add(1))?;
-        print_equation(rt, equation)?;
+        print_equation(rt, i.saturating_add(1), equation)?;
         rt.println("")?;
     }
     Ok(())
 }
 
-// The constant of an equation, its linear and its quadratic part.
-fn print_equation(rt: &HostRuntime, equation: &[u8]) -> anyhow::Result<()> {
+// An equation with its number: its constant, its linear and its quadratic part.
+fn print_equation(rt: &HostRuntime, number: usize, equation: &[u8]) -> anyhow::Result<()> {
     let (linear, quadratic) = equation.split_at((1 + VARIABLES).min(equation.len()));
     if let Some((constant, linear)) = linear.split_first() {
-        print!(rt; "{constant:02x}")?;
+        print!(rt; "  y{number} = {constant:02x}")?;
         for (i, c) in linear.iter().enumerate() {
             print!(rt; " + {c:02x}*s{}", i.saturating_add(1))?;
         }
