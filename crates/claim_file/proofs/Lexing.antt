@@ -37,6 +37,22 @@ pub gap_step : (inside : Bool) (n b : ℕ) (bs : List ℕ) → (inside || apart 
 unfolding bare words_after
 gap_step inside n b bs h = grind (arith, nat_tests)
 
+-- a blank of a gap
+pub blank_step : (n b : ℕ) (bs : List ℕ) → apart b ≡ true → (b ≡ 35 → ⊥) → words_after n [] (bare false (b ∷ bs)) ≡ words_after (next_line n b) [] (bare false bs)
+blank_step n b bs h other =
+    let outside : cond (eqb b 10) false (eqb b 35) ≡ false = grind (arith, nat_tests) in
+    gap_step false n b bs h ∙ ap (λ i. words_after (next_line n b) [] (bare i bs)) outside
+
+-- a comment goes up to its line's end
+comment_cut : (bs : List ℕ) → bare true bs ≡ bare false (drop (position_or_len (λ b. eqb b 10) bs) bs)
+unfolding bare
+comment_cut [] = refl
+comment_cut (b ∷ bs) = let more = comment_cut bs in grind (arith, nat_tests, one-add (position_or_len (λ c. eqb c 10) bs))
+
+-- a comment of a gap
+pub comment_step : (n : ℕ) (bs : List ℕ) → words_after n [] (bare false (35 ∷ bs)) ≡ words_after n [] (bare false (drop (position_or_len (λ b. eqb b 10) bs) bs))
+comment_step n bs = gap_step false n 35 bs refl ∙ ap (words_after n []) (comment_cut bs)
+
 -- where a word ends
 pub word_cut : (n : ℕ) (w bs : List ℕ) → words_after n w (bare false bs) ≡ ended n (w ++ take (position_or_len apart bs) bs) ++ words_after n [] (bare false (drop (position_or_len apart bs) bs))
 word_cut n w [] = word_done n w [] (λ h. absurd (omega arith)) ∙ ap (λ l. ended n l ++ words_after n [] (bare false [])) (sym (append-nil w))

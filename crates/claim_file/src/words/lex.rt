@@ -1,5 +1,5 @@
 // Cuts a text into its words.
-ghost use Rattle.std.specs.Prelude.{◌≡◌, ◌+◌, ◌^◌, ◌<◌, ◌≤◌, false, ◌||◌, length, if◌then◌else◌, ◌==◌, filter};
+ghost use Rattle.std.specs.Prelude.{◌≡◌, ◌+◌, ◌^◌, ◌<◌, ◌≤◌, length, ◌==◌, filter};
 ghost use Rattle.std.specs.List.{position_or_len};
 ghost use Rattle.claim_file.specs.Lexical.{blank, next_line, last_line, words};
 ghost use Rattle.claim_file.specs.State.{text_of, ahead, apart, Passed, Taken};
@@ -25,20 +25,6 @@ fn is_apart(b: u8) -> bool
     is_blank(b) || b == COMMENT
 }
 
-// Whether a byte belongs to a gap between words, after bytes that end inside of a comment or not.
-fn in_gap(comment: bool, b: u8) -> bool
-    ensures { result ≡ (comment || apart b) }
-{
-    comment || is_apart(b)
-}
-
-// Whether a comment goes on after a byte of a gap.
-fn in_comment(comment: bool, b: u8) -> bool
-    ensures { result ≡ (if b == 10 then false else comment || b == 35) }
-{
-    b != LINE_END && (comment || b == COMMENT)
-}
-
 // The line of what follows a byte.
 fn line_after(line: usize, b: u8) -> usize
     requires { line + 1 < 2 ^ 64 }
@@ -53,6 +39,16 @@ fn word_len(rest: &[u8]) -> usize
     ensures first { result ≡ position_or_len apart rest.now }
 {
     rest.iter().position(|&b| is_apart(b)).unwrap_or(rest.len())
+}
+
+// How many bytes at the front belong to a comment that has begun, which goes up to its line's end.
+fn comment_len(rest: &[u8]) -> usize
+    ensures within { result ≤ length rest.now }
+    ensures first { result ≡ position_or_len (λ b. b == 10) rest.now }
+{
+    rest.iter()
+        .position(|&b| b == LINE_END)
+        .unwrap_or(rest.len())
 }
 
 // How many lines end in a text.
@@ -92,37 +88,40 @@ impl<'a> Words<'a> {
         }
     }
 
-    // Passes blanks and comments, up to the next word or the text's end.
-    fn pass_gap(&mut self)
-        ensures { Passed self.old self.new }
+    // The reader behind the blanks and comments ahead, at the next word or the text's end.
+    fn behind_gap(&self) -> Words<'a>
+        ensures { Passed self.now result }
     {
-        let mut comment = false;
         let (mut rest, mut line) = (self.rest, self.line);
         while let Some((&b, after)) = rest.split_first() {
-            if !in_gap(comment, b) {
+            if !is_apart(b) {
                 break;
             }
-            comment = in_comment(comment, b);
-            line = line_after(line, b);
-            rest = after;
+            if b == COMMENT {
+                rest = &after[comment_len(after)..];
+            } else {
+                line = line_after(line, b);
+                rest = after;
+            }
         }
-        self.rest = rest;
-        self.line = line;
+        Words {
+            text: self.text,
+            rest,
+            line,
+        }
     }
 
     // The next word, if there is one.
     pub(crate) fn next_word(&mut self) -> Option<Word<'a>>
         ensures { Taken self.old result self.new }
     {
-        self.pass_gap();
-        if self.rest.is_empty() {
+        let Words { rest, line, .. } = self.behind_gap();
+        if rest.is_empty() {
             return None;
         }
-        let (bytes, rest) = self.rest.split_at(word_len(self.rest));
+        let (bytes, rest) = rest.split_at(word_len(rest));
         self.rest = rest;
-        Some(Word {
-            bytes,
-            line: self.line,
-        })
+        self.line = line;
+        Some(Word { bytes, line })
     }
 }
