@@ -53,6 +53,17 @@ comment_cut (b ∷ bs) = let more = comment_cut bs in grind (arith, nat_tests, o
 pub comment_step : (n : ℕ) (bs : List ℕ) → words_after n [] (bare false (35 ∷ bs)) ≡ words_after n [] (bare false (drop (position_or_len (λ b. eqb b 10) bs) bs))
 comment_step n bs = gap_step false n 35 bs refl ∙ ap (words_after n []) (comment_cut bs)
 
+-- what stands behind a comment is its line's end
+behind_comment : (c : ℕ) (bs more : List ℕ) → drop (position_or_len (λ b. eqb b 10) bs) bs ≡ c ∷ more → c ≡ 10
+behind_comment c [] more h = grind (arith)
+behind_comment c (b ∷ bs) more h = let rest = behind_comment c bs more in grind (arith, nat_tests, one-add (position_or_len (λ c. eqb c 10) bs))
+
+-- a comment of a gap, with its line's end
+pub comment_line : (n c : ℕ) (bs more : List ℕ) → drop (position_or_len (λ b. eqb b 10) bs) bs ≡ c ∷ more → words_after n [] (bare false (35 ∷ bs)) ≡ words_after (next_line n c) [] (bare false more)
+comment_line n c bs more h =
+    let ends = behind_comment c bs more h in
+    comment_step n bs ∙ rw (h) (blank_step n c more (rw ends refl) (λ e. absurd (omega arith)))
+
 -- where a word ends
 pub word_cut : (n : ℕ) (w bs : List ℕ) → words_after n w (bare false bs) ≡ ended n (w ++ take (position_or_len apart bs) bs) ++ words_after n [] (bare false (drop (position_or_len apart bs) bs))
 word_cut n w [] = word_done n w [] (λ h. absurd (omega arith)) ∙ ap (λ l. ended n l ++ words_after n [] (bare false [])) (sym (append-nil w))
@@ -69,6 +80,10 @@ word_cut n w (b ∷ bs) = ⊎_elim here (goes (word_cut n (w ++ b ∷ []) bs)) (
 pub word_taken : (n k : ℕ) (rest : List ℕ) → k ≡ position_or_len apart rest → 0 < length rest → apart (get_or rest 0 0) ≡ false → words_after n [] (bare false rest) ≡ record { spelling = take k rest; line = n } ∷ words_after n [] (bare false (drop k rest))
 word_taken n k [] e some first = absurd (omega arith)
 word_taken n k (b ∷ bs) e some first = rw (e, first, one-add (position_or_len apart bs)) (on_word n [] b bs first ∙ word_cut n (b ∷ []) bs)
+
+-- a word is its first byte and what follows of it
+pub word_longer : (k b : ℕ) (rest bs : List ℕ) → k ≡ position_or_len apart bs → rest ≡ b ∷ bs → apart (get_or rest 0 0) ≡ false → 1 + k ≡ position_or_len apart rest
+word_longer k b rest bs e split first = rw (e, split) (let outside : apart b ≡ false = rw split at first in grind (arith, one-add (position_or_len apart bs)))
 
 -- where a text has no byte more, there is no word more
 pub gap_end : (inside : Bool) (n : ℕ) (bs : List ℕ) → length bs ≡ 0 → words_after n [] (bare inside bs) ≡ []

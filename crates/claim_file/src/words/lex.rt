@@ -97,11 +97,14 @@ impl<'a> Words<'a> {
             if !is_apart(b) {
                 break;
             }
-            if b == COMMENT {
-                rest = &after[comment_len(after)..];
-            } else {
+            if b != COMMENT {
                 line = line_after(line, b);
                 rest = after;
+            } else if let Some((&end, behind)) = after[comment_len(after)..].split_first() {
+                line = line_after(line, end);
+                rest = behind;
+            } else {
+                rest = &[];
             }
         }
         Words {
@@ -116,10 +119,9 @@ impl<'a> Words<'a> {
         ensures { Taken self.old result self.new }
     {
         let Words { rest, line, .. } = self.behind_gap();
-        if rest.is_empty() {
-            return None;
-        }
-        let (bytes, rest) = rest.split_at(word_len(rest));
+        // The byte that ended the gap begins the word.
+        let (_, after) = rest.split_first()?;
+        let (bytes, rest) = rest.split_at(1 + word_len(after));
         self.rest = rest;
         self.line = line;
         Some(Word { bytes, line })
